@@ -1,0 +1,68 @@
+//! Numbers of four and eight bytes, the greatest byte first: read out of a slice and written into one.
+ghost use mathlib.Core.Path.{_≡_};
+ghost use Prim.Native.Nat.{_+_, _<_, _≤_};
+ghost use lib.ListN.{length, take, drop};
+ghost use Rattle.std.specs.Options.{Cases};
+ghost use Rattle.bytes.specs.BigEndian.{bytesOf, Reads, Writes, Reads-back, Writes-back};
+
+// The `N` bytes of `input` from `at` on, or `None` where there are fewer.
+pub fn bytes_at<const N: usize>(input: &[u8], at: usize) -> Option<&[u8; N]>
+    ensures { λ r. ⌜ Cases r (length (now (input .entry)) < at + N) (λ part. (at + N ≤ length (now (input .entry))) × (now part ≡ take N (drop at (now (input .entry))))) ⌝ }
+{
+    match input.get(at..) {
+        Some(rest) => rest.first_chunk::<N>(),
+        None => None,
+    }
+}
+
+// The number of the eight bytes of `input` from `at` on, or `None` where there are fewer.
+pub fn read_u64(input: &[u8], at: usize) -> Option<u64>
+    ensures { λ r. ⌜ Reads 8 (now (input .entry)) at r ⌝ }
+{
+    match bytes_at::<8>(input, at) {
+        Some(part) => Some(u64::from_be_bytes(*part)),
+        None => None,
+    }
+}
+
+// The number of the four bytes of `input` from `at` on, or `None` where there are fewer.
+pub fn read_u32(input: &[u8], at: usize) -> Option<u32>
+    ensures { λ r. ⌜ Reads 4 (now (input .entry)) at r ⌝ }
+{
+    match bytes_at::<4>(input, at) {
+        Some(part) => Some(u32::from_be_bytes(*part)),
+        None => None,
+    }
+}
+
+// Writes `bytes` into `space` from `at` on. Where they do not fit it answers false and writes nothing.
+pub fn write_bytes(space: &mut [u8], at: usize, bytes: &[u8]) -> bool
+    ensures { λ r. ⌜ Writes (now (bytes .entry)) at (now (space .entry)) (now (space .exit)) r ⌝ }
+{
+    if at > space.len() || bytes.len() > space.len() - at {
+        return false;
+    }
+    let end = at + bytes.len();
+    space[at..end].copy_from_slice(bytes);
+    true
+}
+
+// Writes the eight bytes of `x` into `space` from `at` on. Where they do not fit it answers false and writes nothing.
+pub fn write_u64(space: &mut [u8], at: usize, x: u64) -> bool
+    ensures { λ r. ⌜ Writes (bytesOf 8 x) at (now (space .entry)) (now (space .exit)) r ⌝ }
+{
+    write_bytes(space, at, &x.to_be_bytes())
+}
+
+// Writes the four bytes of `x` into `space` from `at` on. Where they do not fit it answers false and writes nothing.
+pub fn write_u32(space: &mut [u8], at: usize, x: u32) -> bool
+    ensures { λ r. ⌜ Writes (bytesOf 4 x) at (now (space .entry)) (now (space .exit)) r ⌝ }
+{
+    write_bytes(space, at, &x.to_be_bytes())
+}
+
+// A promise over every width, which a caller may cite: numbers and bytes give each other back.
+pub fn bytes_and_numbers_match()
+    ensures reads_back { λ _. ⌜ Reads-back ⌝ }
+    ensures writes_back { λ _. ⌜ Writes-back ⌝ }
+{}
