@@ -1,0 +1,19 @@
+-- The refusals of reader and writer: their numbers and what they name.
+use Prim.Native.Nat.{ℕ}
+use Rattle.records.specs.declared.fault.ReadFault.{ReadFault}
+use Rattle.records.specs.declared.fault.ReadFault.the-variants.{UnknownLetter, CutBody}
+use Rattle.records.specs.declared.fault.WriteFault.{WriteFault}
+use Rattle.records.specs.declared.fault.WriteFault.the-variants.{BadReference, ShortSpace}
+
+abbrev pub readNumber : ReadFault → ℕ
+readNumber (UnknownLetter place) = 15
+readNumber (CutBody place) = 16
+
+-- the place of the letter
+abbrev pub placeOf : ReadFault → ℕ
+placeOf (UnknownLetter place) = place
+placeOf (CutBody place) = place
+
+abbrev pub writeNumber : WriteFault → ℕ
+writeNumber BadReference = 16
+writeNumber ShortSpace = 13

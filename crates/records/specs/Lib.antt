@@ -1,0 +1,5 @@
+pub mod Layout
+pub mod Records
+pub mod Faults
+pub mod Reading
+pub mod Parsing
