@@ -56,6 +56,10 @@ pub bytes4 : (n : ℕ) → bytesOf 4 n ≡ (n / 16777216 % 256) ∷ (n / 65536 %
 unfolding bytesOf
 bytes4 n = simp div-one
 
+pub bytes1 : (n : ℕ) → n < 256 → bytesOf 1 n ≡ n ∷ []
+unfolding bytesOf
+bytes1 n h = ap (λ m. m ∷ []) (simp div-one (mod-eq-of-lt h))
+
 -- the k elements of s from a place on, one by one
 abbrev pub reads : ℕ → ℕ → List ℕ → List ℕ
 reads zero i s = []

@@ -3,6 +3,7 @@ ghost use mathlib.Core.Path.{_≡_};
 ghost use Prim.Native.Nat.{_+_, _<_, _≤_};
 ghost use lib.ListN.{length, take, drop};
 ghost use Rattle.std.specs.Options.{Cases};
+ghost use Rattle.std.specs.shelf.Digits.{Under};
 ghost use Rattle.bytes.specs.BigEndian.{bytesOf, Reads, Writes, Reads-back, Writes-back};
 
 // The `N` bytes of `input` from `at` on, or `None` where there are fewer.
@@ -37,7 +38,8 @@ pub fn read_u32(input: &[u8], at: usize) -> Option<u32>
 
 // Writes `bytes` into `space` from `at` on. Where they do not fit it answers false and writes nothing.
 pub fn write_bytes(space: &mut [u8], at: usize, bytes: &[u8]) -> bool
-    ensures { λ r. ⌜ Writes (now (bytes .entry)) at (now (space .entry)) (now (space .exit)) r ⌝ }
+    ensures bytes { λ _. ⌜ Under 256 (now (bytes .entry)) ⌝ }
+    ensures answer { λ r. ⌜ Writes (now (bytes .entry)) at (now (space .entry)) (now (space .exit)) r ⌝ }
 {
     if at > space.len() || bytes.len() > space.len() - at {
         return false;
@@ -57,6 +59,13 @@ pub fn write_u64(space: &mut [u8], at: usize, x: u64) -> bool
 // Writes the four bytes of `x` into `space` from `at` on. Where they do not fit it answers false and writes nothing.
 pub fn write_u32(space: &mut [u8], at: usize, x: u32) -> bool
     ensures { λ r. ⌜ Writes (bytesOf 4 x) at (now (space .entry)) (now (space .exit)) r ⌝ }
+{
+    write_bytes(space, at, &x.to_be_bytes())
+}
+
+// Writes the byte `x` into `space` at `at`. Where there is no such place it answers false and writes nothing.
+pub fn write_u8(space: &mut [u8], at: usize, x: u8) -> bool
+    ensures { λ r. ⌜ Writes (bytesOf 1 x) at (now (space .entry)) (now (space .exit)) r ⌝ }
 {
     write_bytes(space, at, &x.to_be_bytes())
 }

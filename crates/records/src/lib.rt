@@ -3,6 +3,7 @@ pub mod fault;
 pub mod kind;
 pub mod read;
 pub mod record;
+pub mod write;
 
 pub use fault::ReadFault;
 pub use fault::WriteFault;
@@ -10,3 +11,4 @@ pub use kind::Kind;
 pub use read::Reader;
 pub use read::read_record;
 pub use record::Record;
+pub use write::write_record;
