@@ -1,3 +1,5 @@
 pub mod Packing
 pub mod Standing
 pub mod Filling
+pub mod Splitting
+pub mod Files

@@ -4,3 +4,5 @@ pub mod Faults
 pub mod Reading
 pub mod Parsing
 pub mod Writing
+pub mod Files
+pub mod Laws

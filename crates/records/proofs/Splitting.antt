@@ -1,0 +1,105 @@
+-- No record's bytes begin another's, so that a file splits in one way.
+use mathlib.Core.Path.{_≡_, refl, sym, ap, subst, _∙_}
+use mathlib.Core.Bool.{cond}
+use mathlib.Core.List.{List, [], _∷_, _++_, append-assoc}
+use Prim.Native.Nat.{ℕ, _+_, _<_}
+use native.Mathlib.Omega.{arith}
+use lib.Dec.{eqb}
+use lib.ListN.{length, getD, take, drop, length-append, length-drop, take-append-drop}
+use lib.Seq.{drop-cons}
+use Rattle.std.specs.Joined.{joined}
+use Rattle.std.specs.shelf.Lists.{All}
+use Rattle.std.proofs.shelf.Lists.{take-at, drop-at, drop-drop}
+use Rattle.records.specs.declared.kind.Kind.{Kind}
+use Rattle.records.specs.declared.kind.Kind.the-variants.{Opening, Fund, Draw, Submit, Activate, Withdraw, Reprioritise, Run, Show, Close}
+use Rattle.records.specs.declared.fault.ReadFault.{ReadFault}
+use Rattle.records.specs.declared.fault.ReadFault.the-variants.{UnknownLetter, CutBody}
+use Rattle.records.specs.Layout.{letterOf, widths, bodyOf}
+use Rattle.records.specs.Records.{Plain, packed, encode, Sound}
+use Rattle.records.specs.Reading.{Stands, Refuses}
+use Rattle.records.specs.Files.{MakesUp}
+use Rattle.records.specs.Laws.{One-stands, None-stands, Splits-one-way}
+use Rattle.records.proofs.Packing.{length-packed, packed-same}
+
+-- the kind of a letter
+abbrev kindFrom : ℕ → Kind
+kindFrom n = cond (eqb n 79) Opening (cond (eqb n 70) Fund (cond (eqb n 68) Draw (cond (eqb n 83) Submit (cond (eqb n 65) Activate (cond (eqb n 87) Withdraw (cond (eqb n 76) Reprioritise (cond (eqb n 82) Run (cond (eqb n 66) Show Close))))))))
+
+kind-back : (k : Kind) → kindFrom (letterOf k) ≡ k
+kind-back Opening = refl
+kind-back Fund = refl
+kind-back Draw = refl
+kind-back Submit = refl
+kind-back Activate = refl
+kind-back Withdraw = refl
+kind-back Reprioritise = refl
+kind-back Run = refl
+kind-back Show = refl
+kind-back Close = refl
+
+same-kind : (k l : Kind) → letterOf k ≡ letterOf l → k ≡ l
+same-kind k l e = sym (kind-back k) ∙ ap kindFrom e ∙ kind-back l
+
+-- two records of one kind
+same-plain : (p q : Plain) (s t : List ℕ) → p .kind ≡ q .kind → Sound p → Sound q → packed (widths (p .kind)) (p .values) ++ s ≡ packed (widths (q .kind)) (q .values) ++ t → (p ≡ q) × (s ≡ t)
+same-plain p q s t is hp hq e =
+    let fit : Sound (record { kind = p .kind; values = q .values }) = subst (λ (k : Kind). Sound (record { kind = k; values = q .values })) (sym is) hq in
+    let same = packed-same (widths (p .kind)) (p .values) (q .values) s t hp fit (e ∙ ap (λ k. packed (widths k) (q .values) ++ t) (sym is)) in
+    ((λ i. record { kind = is i; values = same .0 i }), same .1)
+
+-- what begins with the bytes of two records begins with one record
+pub prefix : (p q : Plain) (s t : List ℕ) → Sound p → Sound q → encode p ++ s ≡ encode q ++ t → (p ≡ q) × (s ≡ t)
+prefix p q s t hp hq e = same-plain p q s t (same-kind _ _ (ap (λ l. getD l 0 0) e)) hp hq (ap (drop 1) e)
+
+pub one-stands : One-stands
+one-stands s at p q m n hp hq =
+    let same = prefix p q _ _ (hp .sound) (hq .sound) (sym (hp .bytes) ∙ hq .bytes) .0 in
+    (same, hp .after ∙ ap (λ x. at + length (encode x)) same ∙ sym (hq .after))
+
+-- the letter of the record that stands at a place
+letter-at : (s : List ℕ) (at : ℕ) (p : Plain) (next : ℕ) → Stands s at p next → letterOf (p .kind) ≡ getD s at 0
+letter-at s at p next h = sym (ap (λ l. getD l 0 0) (sym (drop-cons s at 0 (omega (arith, h .after, h .within))) ∙ h .bytes))
+
+pub none-stands : None-stands
+none-stands s at (UnknownLetter place) h p next st = h .unknown refl (p .kind) (letter-at s at p next st)
+none-stands s at (CutBody place) h p next st =
+    let cut = h .cut refl in
+    let same : cut .0 ≡ p .kind = same-kind _ _ (cut .1 ∙ sym (letter-at s at p next st)) in
+    omega (arith, cut .2, ap bodyOf same, length-packed (widths (p .kind)) (p .values) (st .sound), st .after, st .within)
+
+same-lists : (ps qs : List Plain) → All Sound ps → All Sound qs → joined encode ps ≡ joined encode qs → ps ≡ qs
+same-lists [] [] hp hq e = refl
+same-lists [] (q ∷ qs) hp hq e = absurd (omega (arith, ap length e))
+same-lists (p ∷ ps) [] hp hq e = absurd (omega (arith, ap length e))
+same-lists (p ∷ ps) (q ∷ qs) hp hq e =
+    let first = prefix p q (joined encode ps) (joined encode qs) (hp .0) (hq .0) e in
+    λ i. first .0 i ∷ same-lists ps qs (hp .1) (hq .1) (first .1) i
+
+pub splits-one-way : Splits-one-way
+splits-one-way s ps qs hp hq = same-lists ps qs (hp .sound) (hq .sound) (hp .bytes ∙ sym (hq .bytes))
+
+-- records that make up what begins with the bytes of others have more after those
+rest-of : (ps qs : List Plain) (s : List ℕ) → All Sound ps → All Sound qs → joined encode ps ++ s ≡ joined encode qs → (us : List Plain) × All Sound us × (s ≡ joined encode us)
+rest-of [] qs s hp hq e = (qs, hq, e)
+rest-of (p ∷ ps) [] s hp hq e = absurd (omega (arith, ap length e))
+rest-of (p ∷ ps) (q ∷ qs) s hp hq e = rest-of ps qs s (hp .1) (hq .1) (prefix p q _ _ (hp .0) (hq .0) (sym (append-assoc (encode p) (joined encode ps) s) ∙ e) .1)
+
+-- what records make up from a place on begins with one that stands there
+begins : (s : List ℕ) (at : ℕ) (us : List Plain) → at < length s → All Sound us → drop at s ≡ joined encode us → (p : Plain) × Stands s at p (at + length (encode p))
+begins s at [] lt h e = absurd (omega (arith, ap length e, length-drop at s))
+begins s at (p ∷ us) lt h e = (
+  p,
+  record {
+    bytes = e ∙ ap (λ l. encode p ++ l) (sym (sym (drop-drop (length (encode p)) at s) ∙ ap (drop (length (encode p))) e ∙ drop-at (encode p) (joined encode us) _ refl));
+    after = refl;
+    within = omega (arith, ap length e, length-drop at s, length-append (encode p) (joined encode us));
+    sound = h .0;
+  },
+)
+
+-- where records lead up to a place at which none stands, no list of records makes up the whole
+pub none-make-up : (s : List ℕ) (at : ℕ) (ps : List Plain) → at < length s → s ≡ joined encode ps ++ drop at s → All Sound ps → ((p : Plain) (next : ℕ) → Stands s at p next → ⊥) → (qs : List Plain) → MakesUp qs s → ⊥
+none-make-up s at ps lt e hp none qs h =
+    let rest = rest-of ps qs (drop at s) hp (h .sound) (sym e ∙ sym (h .bytes)) in
+    let first = begins s at (rest .0) lt (rest .1) (rest .2) in
+    none (first .0) _ (first .1)

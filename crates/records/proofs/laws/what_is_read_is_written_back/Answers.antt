@@ -1,0 +1,5 @@
+use Rattle.records.proofs.Files.{writes-what-stood}
+use Rattle.records.proofs.laws.what_is_read_is_written_back.Needs as need
+
+pub returns : need.returns
+returns c = writes-what-stood
