@@ -4,10 +4,14 @@ use mathlib.Core.List.{List, [], _∷_, _++_, append-assoc, append-nil}
 use Prim.Native.Nat.{ℕ, _+_, _<_, _≤_}
 use native.Mathlib.Omega.{arith}
 use denote.Ref.{RefT}
-use lib.ListN.{length, take, drop, length-append, length-drop}
+use lib.ListN.{length, getD, take, drop, length-append, length-drop}
 use Rattle.std.specs.Joined.{joined}
 use Rattle.std.specs.shelf.Lists.{All}
-use Rattle.std.proofs.shelf.Lists.{drop-all, length-take-le, take-at}
+use Rattle.std.specs.declared.result.Result.the-variants.{Err}
+use Rattle.std.proofs.shelf.Elements.{all-getD}
+use Rattle.std.proofs.shelf.Lists.{drop-all, length-take-le, take-at, joined-more, map-more}
+use Rattle.records.specs.declared.fault.FileFault.{FileFault}
+use Rattle.records.specs.declared.fault.FileFault.the-variants.{Read, Write, Memory}
 use Rattle.records.specs.declared.fault.ReadFault.{ReadFault}
 use Rattle.records.specs.declared.fault.WriteFault.{WriteFault}
 use Rattle.records.specs.declared.fault.WriteFault.the-variants.{BadReference, ShortSpace}
@@ -19,7 +23,7 @@ use Rattle.records.specs.Records.{plain, Sized, Sound, encode, sizeOf}
 use Rattle.records.specs.Faults.{placeOf, writeNumber}
 use Rattle.records.specs.Reading.{Stands, Lent, Refuses}
 use Rattle.records.specs.Writing.{Unwritten}
-use Rattle.records.specs.Files.{said, Follow, MakesUp, Whole, Stopped}
+use Rattle.records.specs.Files.{said, Follow, MakesUp, Whole, Stopped, Appended, Joined}
 use Rattle.records.specs.Laws.{Writes-what-stood}
 use Rattle.records.proofs.Packing.{length-packed}
 use Rattle.records.proofs.Splitting.{none-stands, splits-one-way, none-make-up}
@@ -97,3 +101,14 @@ writes-what-stood file at w next st l =
       same = λ n old new wr. (omega (arith, wr .size), wr .after ∙ ap (λ t. t ++ drop n old) (sym (take-at (encode (plain w)) (drop next (file .now)) n (omega (arith, wr .size, st .after))) ∙ ap (take n) (sym (st .bytes))));
       room = λ f old new un. let short = for-space w old new f (lent-sized file at w next st l) un in (short .0, omega (arith, short .1));
     }
+
+-- a turn that wrote one record more
+pub joined-record : (ws : List Placed) (i : ℕ) (d : Placed) {bytes : List ℕ} → bytes ≡ joined encode (said (take i ws)) → i < length ws → bytes ++ encode (plain (getD ws i d .«record»)) ≡ joined encode (said (take (i + 1) ws))
+joined-record ws i d e h =
+    ap (λ l. l ++ encode (plain (getD ws i d .«record»))) e ∙ joined-more encode [] (said (take i ws)) (plain (getD ws i d .«record»)) ∙ ap (joined encode) (sym (map-more (λ w. plain (w .«record»)) ws i d h))
+
+-- a record that is not written leaves the list unwritten
+pub unjoined : (ws : List Placed) (i : ℕ) (d : Placed) (old new : List ℕ) (e : FileFault) → i < length ws → Appended (getD ws i d .«record») old new (Err e) → Joined ws (Err e)
+unjoined ws i d old new (Read f) lt h = absurd h
+unjoined ws i d old new (Write f) lt h = (h .0, λ sized. h .1 (all-getD (λ w. Sized (w .«record»)) ws i d lt sized))
+unjoined ws i d old new Memory lt h = tt

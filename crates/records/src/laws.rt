@@ -4,18 +4,15 @@ ghost use Rattle.records.specs.Laws.{Writes-what-stood, One-stands, None-stand
 // What is read and written again is the same bytes.
 pub fn what_is_read_is_written_back()
     ensures { λ _. ⌜ Writes-what-stood ⌝ }
-{
-}
+{}
 
 // At each place stands at most one record, and none where the reader refuses.
 pub fn a_place_has_one_record()
     ensures one { λ _. ⌜ One-stands ⌝ }
     ensures none { λ _. ⌜ None-stands ⌝ }
-{
-}
+{}
 
 // Two lists of records with the same bytes are the same list.
 pub fn a_file_splits_one_way()
     ensures { λ _. ⌜ Splits-one-way ⌝ }
-{
-}
+{}
