@@ -2,4 +2,4 @@ pub mod Packing
 pub mod Standing
 pub mod Filling
 pub mod Splitting
-pub mod Files
+pub mod WritingBack

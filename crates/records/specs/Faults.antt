@@ -1,13 +1,9 @@
 -- The refusals of reader and writer: their numbers and what they name.
 use Prim.Native.Nat.{ℕ}
-use Rattle.std.specs.declared.option.Option.{Option}
-use Rattle.std.specs.declared.option.Option.the-variants.{Some, None}
 use Rattle.records.specs.declared.fault.ReadFault.{ReadFault}
 use Rattle.records.specs.declared.fault.ReadFault.the-variants.{UnknownLetter, CutBody}
 use Rattle.records.specs.declared.fault.WriteFault.{WriteFault}
 use Rattle.records.specs.declared.fault.WriteFault.the-variants.{BadReference, ShortSpace}
-use Rattle.records.specs.declared.fault.FileFault.{FileFault}
-use Rattle.records.specs.declared.fault.FileFault.the-variants.{Read, Write, Memory}
 
 abbrev pub readNumber : ReadFault → ℕ
 readNumber (UnknownLetter place) = 15
@@ -21,9 +17,3 @@ placeOf (CutBody place) = place
 abbrev pub writeNumber : WriteFault → ℕ
 writeNumber BadReference = 16
 writeNumber ShortSpace = 13
-
--- want of memory is no refusal, and has no number
-abbrev pub fileNumber : FileFault → Option ℕ
-fileNumber (Read f) = Some (readNumber f)
-fileNumber (Write f) = Some (writeNumber f)
-fileNumber Memory = None

@@ -11,7 +11,6 @@ use Rattle.records.specs.Records.{Plain, plain}
 use Rattle.records.specs.Faults.{writeNumber}
 use Rattle.records.specs.Reading.{Stands, Lent, Refuses}
 use Rattle.records.specs.Writing.{Written, Unwritten}
-use Rattle.records.specs.Files.{MakesUp}
 
 -- a record that the reader lends from a file at a place is written out as it stood there; only want of space
 -- refuses it
@@ -29,7 +28,3 @@ One-stands = (s : List ℕ) (at : ℕ) (p q : Plain) (m n : ℕ) → Stands s at
 -- and none where the reader refuses
 abbrev pub None-stands : Type 0
 None-stands = (s : List ℕ) (at : ℕ) (f : ReadFault) → Refuses s at f → (p : Plain) (next : ℕ) → Stands s at p next → ⊥
-
--- a file splits into records in one way
-abbrev pub Splits-one-way : Type 0
-Splits-one-way = (s : List ℕ) (ps qs : List Plain) → MakesUp ps s → MakesUp qs s → ps ≡ qs

@@ -4,5 +4,4 @@ pub mod Faults
 pub mod Reading
 pub mod Parsing
 pub mod Writing
-pub mod Files
 pub mod Laws

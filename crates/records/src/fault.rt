@@ -1,8 +1,6 @@
 //! Why a record is not read or not written.
 ghost use mathlib.Core.Path.{_≡_};
-ghost use Rattle.records.specs.Faults.{readNumber, placeOf, writeNumber, fileNumber};
-ghost use Rattle.records.specs.declared.fault.FileFault.the-variants.{Read, Write, Memory};
-use std::alloc::AllocError;
+ghost use Rattle.records.specs.Faults.{readNumber, placeOf, writeNumber};
 
 // Why no record could be read, with the place of its letter in the file, from 0.
 #[derive(Clone, Copy, Debug, PartialEq, Eq)]
@@ -20,15 +18,6 @@ pub enum WriteFault {
     BadReference,
     // The space is shorter than the record.
     ShortSpace,
-}
-
-// Why a whole file was not read or written.
-#[derive(Clone, Copy, Debug, PartialEq, Eq)]
-pub enum FileFault {
-    Read(ReadFault),
-    Write(WriteFault),
-    // There is no memory; this is no refusal of the file, and has no number.
-    Memory,
 }
 
 impl ReadFault {
@@ -61,34 +50,5 @@ impl WriteFault {
             WriteFault::BadReference => 16,
             WriteFault::ShortSpace => 13,
         }
-    }
-}
-
-impl FileFault {
-    // The number of the refusal, where it is one.
-    pub fn number(self) -> Option<u8>
-        ensures { λ r. ⌜ r ≡ fileNumber self ⌝ }
-    {
-        match self {
-            FileFault::Read(fault) => Some(fault.number()),
-            FileFault::Write(fault) => Some(fault.number()),
-            FileFault::Memory => None,
-        }
-    }
-}
-
-pub impl From<WriteFault> for FileFault as FileFaultFromWriteFault {
-    ghost converts = { λ fault r. r ≡ Write fault };
-
-    fn from(fault: WriteFault) -> FileFault {
-        FileFault::Write(fault)
-    }
-}
-
-pub impl From<AllocError> for FileFault as FileFaultFromAllocError {
-    ghost converts = { λ _ r. r ≡ Memory };
-
-    fn from(_fault: AllocError) -> FileFault {
-        FileFault::Memory
     }
 }

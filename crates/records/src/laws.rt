@@ -1,5 +1,5 @@
 //! Promises about day files that a caller may cite; each function does nothing and carries one in its contract.
-ghost use Rattle.records.specs.Laws.{Writes-what-stood, One-stands, None-stands, Splits-one-way};
+ghost use Rattle.records.specs.Laws.{Writes-what-stood, One-stands, None-stands};
 
 // What is read and written again is the same bytes.
 pub fn what_is_read_is_written_back()
@@ -10,9 +10,4 @@ pub fn what_is_read_is_written_back()
 pub fn a_place_has_one_record()
     ensures one { λ _. ⌜ One-stands ⌝ }
     ensures none { λ _. ⌜ None-stands ⌝ }
-{}
-
-// Two lists of records with the same bytes are the same list.
-pub fn a_file_splits_one_way()
-    ensures { λ _. ⌜ Splits-one-way ⌝ }
 {}

@@ -3,10 +3,10 @@ use lib.ListN.{take}
 use Rattle.std.specs.Joined.{joined}
 use Rattle.std.proofs.shelf.Lists.{take-all}
 use Rattle.std.proofs.shelf.Results.{err-from-errBy}
 use Rattle.records.specs.Records.{encode}
-use Rattle.records.specs.Files.{said}
-use Rattle.records.proofs.Files.{joined-record, unjoined}
-use Rattle.records.proofs.file.write_file.Needs as need
+use Rattle.files.specs.Files.{said}
+use Rattle.files.proofs.Files.{joined-record, unjoined}
+use Rattle.files.proofs.write.write_file.Needs as need
 
 pub returns-in-Break-append-record : need.returns-in-Break-append-record
 returns-in-Break-append-record c =

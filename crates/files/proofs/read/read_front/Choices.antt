@@ -2,8 +2,8 @@ use mathlib.Core.Path.{_≡_}
 use Prim.Native.Nat.{_-_}
 use lib.ListN.{length}
 use Rattle.std.specs.Of.Vec.{vec-items}
-use Rattle.records.specs.Files.{Follow}
-use Rattle.records.proofs.file.read_front.Given as given
+use Rattle.files.specs.Files.{Follow}
+use Rattle.files.proofs.read.read_front.Given as given
 
 abbrev pub Inv-loop-next : given.InvT-loop-next
 Inv-loop-next l = Follow (l .reader .input) 0 (vec-items (l .records)) (l .reader .at) × (l .reader .input ≡ l .entry .reader .input)

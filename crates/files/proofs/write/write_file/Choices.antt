@@ -2,9 +2,9 @@ use mathlib.Core.Path.{_≡_}
 use lib.ListN.{take}
 use Rattle.std.specs.Joined.{joined}
 use Rattle.std.specs.Of.Vec.{vec-items}
 use Rattle.records.specs.Records.{encode}
-use Rattle.records.specs.Files.{said}
-use Rattle.records.proofs.file.write_file.Given as given
+use Rattle.files.specs.Files.{said}
+use Rattle.files.proofs.write.write_file.Given as given
 
 abbrev pub Inv-loop-placed : given.InvT-loop-placed
 Inv-loop-placed l = vec-items (l .file) ≡ joined encode (said (take (l .placed-index) (l .records)))

@@ -1,5 +1,0 @@
-use Rattle.records.proofs.Splitting.{splits-one-way}
-use Rattle.records.proofs.laws.a_file_splits_one_way.Needs as need
-
-pub returns : need.returns
-returns c = splits-one-way
