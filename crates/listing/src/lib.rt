@@ -1,0 +1,4 @@
+//! A day file as lines that a person reads.
+pub mod hex;
+pub mod line;
+pub mod text;
