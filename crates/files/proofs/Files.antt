@@ -18,6 +18,7 @@ use Rattle.records.specs.Records.{plain, Sized, Sound, encode}
 use Rattle.records.specs.Faults.{placeOf}
 use Rattle.records.specs.Reading.{Stands, Lent, Refuses, Nexts}
 use Rattle.records.proofs.Splitting.{none-stands}
+use Rattle.records.proofs.WritingBack.{lent-sized}
 use Rattle.files.specs.declared.fault.FileFault.{FileFault}
 use Rattle.files.specs.declared.fault.FileFault.the-variants.{Read, Write, Memory}
 use Rattle.files.specs.declared.placed.Placed.{Placed}
@@ -33,16 +34,20 @@ module _ (file : RefT (List ℕ)) where
   )
   follow-push at (x ∷ ws) w mid next h e st l = (h .0, h .1, (h .2 .0, h .2 .1, follow-push (h .2 .0) ws w mid next (h .2 .2) e st l))
 
-  follow-bytes : (at : ℕ) (ws : List Placed) (end : ℕ) → Follow file at ws end → drop at (file .now) ≡ joined encode (said ws) ++ drop end (file .now)
+  pub follow-bytes : (at : ℕ) (ws : List Placed) (end : ℕ) → Follow file at ws end → drop at (file .now) ≡ joined encode (said ws) ++ drop end (file .now)
   follow-bytes at [] end h = ap (λ n. drop n (file .now)) h
   follow-bytes at (w ∷ ws) end h =
       h .2 .1 .bytes ∙ ap (λ l. encode (plain (w .«record»)) ++ l) (follow-bytes (h .2 .0) ws end (h .2 .2)) ∙ sym (append-assoc (encode (plain (w .«record»))) (joined encode (said ws)) (drop end (file .now)))
+
+  pub follow-sized : (at : ℕ) (ws : List Placed) (end : ℕ) → Follow file at ws end → All (λ w. Sized (w .«record»)) ws
+  follow-sized at [] end h = tt
+  follow-sized at (w ∷ ws) end h = (lent-sized file at (w .«record») (h .2 .0) (h .2 .1) (h .1), follow-sized (h .2 .0) ws end (h .2 .2))
 
   follow-sound : (at : ℕ) (ws : List Placed) (end : ℕ) → Follow file at ws end → All Sound (said ws)
   follow-sound at [] end h = tt
   follow-sound at (w ∷ ws) end h = (h .2 .1 .sound, follow-sound (h .2 .0) ws end (h .2 .2))
 
-  follow-within : (at : ℕ) (ws : List Placed) (end : ℕ) → at ≤ length (file .now) → Follow file at ws end → end ≤ length (file .now)
+  pub follow-within : (at : ℕ) (ws : List Placed) (end : ℕ) → at ≤ length (file .now) → Follow file at ws end → end ≤ length (file .now)
   follow-within at [] end le h = omega arith
   follow-within at (w ∷ ws) end le h = follow-within (h .2 .0) ws end (h .2 .1 .within) (h .2 .2)
 

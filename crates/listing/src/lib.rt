@@ -1,4 +1,5 @@
 //! A day file as lines that a person reads.
 pub mod hex;
 pub mod line;
+pub mod list;
 pub mod text;
