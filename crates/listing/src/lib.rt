@@ -3,3 +3,7 @@ pub mod hex;
 pub mod line;
 pub mod list;
 pub mod text;
+
+pub use line::Verdict;
+pub use list::Listing;
+pub use list::list as list_file;
