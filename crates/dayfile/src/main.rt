@@ -1,7 +1,7 @@
 //! Lists the day file on standard input, writes it out again, and says whether that is the same file.
 use files::read_input;
-use listing::Verdict;
-use listing::list::list;
+use lines::Verdict;
+use listing::list;
 use std::error::AnyError;
 
 // Ends with status 1 where the file is not the same.

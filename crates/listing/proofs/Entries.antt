@@ -7,9 +7,9 @@ use native.Mathlib.Omega.{arith}
 use lib.ListN.{length, getD, take}
 use Rattle.std.proofs.shelf.Lists.{take-more, length-take-le}
 use Rattle.files.specs.declared.placed.Placed.{Placed}
-use Rattle.listing.specs.declared.line.Verdict.{Verdict}
-use Rattle.listing.specs.declared.line.Verdict.the-variants.{Same, Front}
-use Rattle.listing.specs.Lines.{entryText}
+use Rattle.lines.specs.declared.line.Verdict.{Verdict}
+use Rattle.lines.specs.declared.line.Verdict.the-variants.{Same, Front}
+use Rattle.lines.specs.Lines.{entryText}
 use Rattle.listing.specs.Listing.{entriesText, Judged}
 
 entries-push : (n : ℕ) (ws : List Placed) (w : Placed) → entriesText n (ws ++ w ∷ []) ≡ entriesText n ws ++ (entryText (n + length ws) w ++ (10 ∷ []))

@@ -15,8 +15,8 @@ use Rattle.records.specs.Records.{Sized, encode}
 use Rattle.files.specs.declared.placed.Placed.{Placed}
 use Rattle.files.specs.Files.{said, Follow, Fronts}
 use Rattle.files.proofs.Files.{follow-bytes, follow-within, follow-sized}
-use Rattle.listing.specs.declared.line.Verdict.{Verdict}
-use Rattle.listing.specs.Lines.{endingText}
+use Rattle.lines.specs.declared.line.Verdict.{Verdict}
+use Rattle.lines.specs.Lines.{endingText}
 use Rattle.listing.specs.Listing.{entriesText, stopText, readOf, verdictOf, Judged, listingText}
 
 module _ (file : RefT (List ℕ)) (ws : List Placed) where

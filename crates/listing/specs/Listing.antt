@@ -12,10 +12,10 @@ use Rattle.files.specs.declared.placed.Placed.{Placed}
 use Rattle.files.specs.Files.{Fronts}
 use Rattle.records.specs.declared.fault.ReadFault.{ReadFault}
 use Rattle.records.specs.Faults.{placeOf}
-use Rattle.listing.specs.declared.line.Verdict.{Verdict}
-use Rattle.listing.specs.declared.line.Verdict.the-variants.{Same, Front, Longer}
-use Rattle.listing.specs.declared.list.Listing.{Listing}
-use Rattle.listing.specs.Lines.{entryText, refusalText, endingText}
+use Rattle.lines.specs.declared.line.Verdict.{Verdict}
+use Rattle.lines.specs.declared.line.Verdict.the-variants.{Same, Front, Longer}
+use Rattle.listing.specs.declared.Listing.{Listing}
+use Rattle.lines.specs.Lines.{entryText, refusalText, endingText}
 
 -- a line for each record, numbered on from a number
 abbrev pub entriesText : ℕ → List Placed → List ℕ
