@@ -48,4 +48,4 @@ verdictText (Front of) = codes "not the same file, which has " ++ (decimal of ++
 verdictText Longer = codes "not the same file, which is longer than 65536 bytes and was read no further"
 
 abbrev pub endingText : Ending → List ℕ
-endingText e = codes "wrote back " ++ (decimal (e .records) ++ (codes " records, " ++ (decimal (e .bytes) ++ (codes " bytes: " ++ verdictText (e .verdict)))))
+endingText e = codes "wrote back records=" ++ (decimal (e .records) ++ (codes " bytes=" ++ (decimal (e .bytes) ++ (codes ": " ++ verdictText (e .verdict)))))

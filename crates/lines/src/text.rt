@@ -137,6 +137,6 @@ pub impl fmt::Display for Ending as EndingDisplay {
             bytes,
             verdict,
         } = *self;
-        write!(f, "wrote back {records} records, {bytes} bytes: {verdict}")
+        write!(f, "wrote back records={records} bytes={bytes}: {verdict}")
     }
 }
