@@ -49,25 +49,25 @@ pub fn write_bytes(space: &mut [u8], at: usize, bytes: &[u8]) -> bool
     true
 }
 
-// Writes the eight bytes of `x` into `space` from `at` on. Where they do not fit it answers false and writes nothing.
-pub fn write_u64(space: &mut [u8], at: usize, x: u64) -> bool
-    ensures { λ r. ⌜ Writes (bytesOf 8 x) at (now (space .entry)) (now (space .exit)) r ⌝ }
+// Writes the eight bytes of `number` into `space` from `at` on. Where they do not fit it answers false and writes nothing.
+pub fn write_u64(space: &mut [u8], at: usize, number: u64) -> bool
+    ensures { λ r. ⌜ Writes (bytesOf 8 number) at (now (space .entry)) (now (space .exit)) r ⌝ }
 {
-    write_bytes(space, at, &x.to_be_bytes())
+    write_bytes(space, at, &number.to_be_bytes())
 }
 
-// Writes the four bytes of `x` into `space` from `at` on. Where they do not fit it answers false and writes nothing.
-pub fn write_u32(space: &mut [u8], at: usize, x: u32) -> bool
-    ensures { λ r. ⌜ Writes (bytesOf 4 x) at (now (space .entry)) (now (space .exit)) r ⌝ }
+// Writes the four bytes of `word` into `space` from `at` on. Where they do not fit it answers false and writes nothing.
+pub fn write_u32(space: &mut [u8], at: usize, word: u32) -> bool
+    ensures { λ r. ⌜ Writes (bytesOf 4 word) at (now (space .entry)) (now (space .exit)) r ⌝ }
 {
-    write_bytes(space, at, &x.to_be_bytes())
+    write_bytes(space, at, &word.to_be_bytes())
 }
 
-// Writes the byte `x` into `space` at `at`. Where there is no such place it answers false and writes nothing.
-pub fn write_u8(space: &mut [u8], at: usize, x: u8) -> bool
-    ensures { λ r. ⌜ Writes (bytesOf 1 x) at (now (space .entry)) (now (space .exit)) r ⌝ }
+// Writes `byte` into `space` at `at`. Where there is no such place it answers false and writes nothing.
+pub fn write_u8(space: &mut [u8], at: usize, byte: u8) -> bool
+    ensures { λ r. ⌜ Writes (bytesOf 1 byte) at (now (space .entry)) (now (space .exit)) r ⌝ }
 {
-    write_bytes(space, at, &x.to_be_bytes())
+    write_bytes(space, at, &[byte])
 }
 
 // A promise over every width, which a caller may cite: numbers and bytes give each other back.

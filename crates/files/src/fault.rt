@@ -38,7 +38,7 @@ pub impl From<WriteFault> for FileFault as FileFaultFromWriteFault {
     ghost converts = { λ fault r. r ≡ Write fault };
 
     fn from(fault: WriteFault) -> FileFault {
-        FileFault::Write(fault)
+        Self::Write(fault)
     }
 }
 
@@ -46,6 +46,6 @@ pub impl From<AllocError> for FileFault as FileFaultFromAllocError {
     ghost converts = { λ _ r. r ≡ Memory };
 
     fn from(_fault: AllocError) -> FileFault {
-        FileFault::Memory
+        Self::Memory
     }
 }

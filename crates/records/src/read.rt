@@ -123,9 +123,10 @@ impl<'a> Reader<'a> {
         ensures same { λ _. ⌜ now (self .exit) .input ≡ now (self .entry) .input ⌝ }
         ensures answer { λ r. ⌜ Nexts (now (self .entry) .input) (now (self .entry) .at) (now (self .exit) .at) r ⌝ }
     {
-        match read_record(self.input, self.at)? {
+        let Reader { input, at } = self;
+        match read_record(input, *at)? {
             Some((record, next)) => {
-                self.at = next;
+                *at = next;
                 Ok(Some(record))
             }
             None => Ok(None),
