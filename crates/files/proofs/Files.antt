@@ -12,10 +12,10 @@ use Rattle.std.specs.declared.result.Result.the-variants.{Ok, Err}
 use Rattle.std.specs.shelf.Lists.{All}
 use Rattle.std.proofs.shelf.Elements.{all-getD}
 use Rattle.std.proofs.shelf.Lists.{drop-all, take-at, joined-more, map-more}
-use Rattle.records.specs.declared.fault.ReadFault.{ReadFault}
-use Rattle.records.specs.declared.record.Record.{Record}
-use Rattle.records.specs.Records.{plain, Sized, Sound, encode}
-use Rattle.records.specs.Faults.{placeOf}
+use Rattle.layout.specs.declared.fault.ReadFault.{ReadFault}
+use Rattle.layout.specs.declared.record.Record.{Record}
+use Rattle.layout.specs.Records.{plain, Sized, Sound, encode}
+use Rattle.layout.specs.Faults.{placeOf}
 use Rattle.records.specs.Reading.{Stands, Lent, Refuses, Nexts}
 use Rattle.records.proofs.Splitting.{none-stands}
 use Rattle.records.proofs.WritingBack.{lent-sized}

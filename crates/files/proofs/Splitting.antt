@@ -7,7 +7,7 @@ use lib.ListN.{length, drop, length-append, length-drop}
 use Rattle.std.specs.Joined.{joined}
 use Rattle.std.specs.shelf.Lists.{All}
 use Rattle.std.proofs.shelf.Lists.{drop-at, drop-drop}
-use Rattle.records.specs.Records.{Plain, encode, Sound}
+use Rattle.layout.specs.Records.{Plain, encode, Sound}
 use Rattle.records.specs.Reading.{Stands}
 use Rattle.records.proofs.Splitting.{prefix}
 use Rattle.files.specs.Files.{MakesUp}

@@ -2,7 +2,7 @@
 use Prim.Native.Nat.{ℕ}
 use Rattle.std.specs.declared.option.Option.{Option}
 use Rattle.std.specs.declared.option.Option.the-variants.{Some, None}
-use Rattle.records.specs.Faults.{readNumber, writeNumber}
+use Rattle.layout.specs.Faults.{readNumber, writeNumber}
 use Rattle.files.specs.declared.fault.FileFault.{FileFault}
 use Rattle.files.specs.declared.fault.FileFault.the-variants.{Read, Write, Memory}
 

@@ -13,13 +13,13 @@ use Rattle.std.specs.declared.vec.Vec.{Vec}
 use Rattle.std.specs.shelf.Lists.{All}
 use Rattle.std.specs.declared.option.Option.{Option}
 use Rattle.std.specs.declared.option.Option.the-variants.{Some, None}
-use Rattle.records.specs.declared.fault.ReadFault.{ReadFault}
+use Rattle.layout.specs.declared.fault.ReadFault.{ReadFault}
 use Rattle.files.specs.declared.fault.FileFault.{FileFault}
 use Rattle.files.specs.declared.fault.FileFault.the-variants.{Read, Write, Memory}
-use Rattle.records.specs.declared.record.Record.{Record}
+use Rattle.layout.specs.declared.record.Record.{Record}
 use Rattle.files.specs.declared.placed.Placed.{Placed}
-use Rattle.records.specs.Records.{Plain, plain, Sized, Sound, encode}
-use Rattle.records.specs.Faults.{placeOf, writeNumber}
+use Rattle.layout.specs.Records.{Plain, plain, Sized, Sound, encode}
+use Rattle.layout.specs.Faults.{placeOf, writeNumber}
 use Rattle.records.specs.Reading.{Stands, Lent, Refuses}
 
 -- what some records say, in order

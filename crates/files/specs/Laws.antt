@@ -2,7 +2,7 @@
 use mathlib.Core.Path.{_≡_}
 use mathlib.Core.List.{List}
 use Prim.Native.Nat.{ℕ}
-use Rattle.records.specs.Records.{Plain}
+use Rattle.layout.specs.Records.{Plain}
 use Rattle.files.specs.Files.{MakesUp}
 
 -- a file splits into records in one way

@@ -2,14 +2,14 @@
 ghost use mathlib.Core.Path.{_≡_};
 ghost use Rattle.files.specs.Faults.{fileNumber};
 ghost use Rattle.files.specs.declared.fault.FileFault.the-variants.{Write, Memory};
-use records::ReadFault;
-use records::WriteFault;
-use records::fault::ReadFaultDebug;
-use records::fault::ReadFaultEq;
-use records::fault::ReadFaultPartialEq;
-use records::fault::WriteFaultDebug;
-use records::fault::WriteFaultEq;
-use records::fault::WriteFaultPartialEq;
+use layout::ReadFault;
+use layout::WriteFault;
+use layout::fault::ReadFaultDebug;
+use layout::fault::ReadFaultEq;
+use layout::fault::ReadFaultPartialEq;
+use layout::fault::WriteFaultDebug;
+use layout::fault::WriteFaultEq;
+use layout::fault::WriteFaultPartialEq;
 use std::alloc::AllocError;
 
 // Why a whole file was not read or written.

@@ -1,7 +1,7 @@
 //! The records of a file, each with its place.
-use records::ReadFault;
-use records::Record;
-use records::record::RecordDebug;
+use layout::ReadFault;
+use layout::Record;
+use layout::record::RecordDebug;
 
 // A record of a file, with the place of its letter.
 #[derive(Clone, Copy, Debug)]

@@ -5,7 +5,7 @@ use crate::fault::FileFault;
 use crate::fault::FileFaultFromAllocError;
 use crate::fault::FileFaultFromWriteFault;
 use crate::placed::Placed;
-use records::Record;
+use layout::Record;
 use records::write_record;
 use std::alloc::Global;
 

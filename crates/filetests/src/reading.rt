@@ -2,13 +2,13 @@
 use crate::samples::KINDS;
 use crate::samples::bytes_of;
 use crate::samples::is_sample;
+use layout::fault::ReadFaultDebug;
+use layout::fault::ReadFaultPartialEq;
+use layout::kind::KindDebug;
+use layout::kind::KindPartialEq;
 use records::Kind;
 use records::ReadFault;
 use records::Reader;
-use records::fault::ReadFaultDebug;
-use records::fault::ReadFaultPartialEq;
-use records::kind::KindDebug;
-use records::kind::KindPartialEq;
 use records::read_record;
 use std::test::*;
 

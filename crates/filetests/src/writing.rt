@@ -3,10 +3,10 @@ use crate::samples::KINDS;
 use crate::samples::REFERENCE;
 use crate::samples::bytes_of;
 use crate::samples::sample;
+use layout::fault::WriteFaultDebug;
+use layout::fault::WriteFaultPartialEq;
 use records::Kind;
 use records::WriteFault;
-use records::fault::WriteFaultDebug;
-use records::fault::WriteFaultPartialEq;
 use records::write_record;
 use std::test::*;
 

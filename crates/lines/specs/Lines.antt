@@ -4,11 +4,11 @@ use Prim.Native.Nat.{ℕ}
 use lib.Chars.{codes}
 use Rattle.std.specs.Written.{decimal}
 use Rattle.files.specs.declared.placed.Placed.{Placed}
-use Rattle.records.specs.declared.fault.ReadFault.{ReadFault}
-use Rattle.records.specs.declared.fault.ReadFault.the-variants.{UnknownLetter, CutBody}
-use Rattle.records.specs.declared.record.Record.{Record}
-use Rattle.records.specs.declared.record.Record.the-variants.{Opening, Fund, Draw, Submit, Activate, Withdraw, Reprioritise, Run, Show, Close}
-use Rattle.records.specs.Faults.{readNumber, placeOf}
+use Rattle.layout.specs.declared.fault.ReadFault.{ReadFault}
+use Rattle.layout.specs.declared.fault.ReadFault.the-variants.{UnknownLetter, CutBody}
+use Rattle.layout.specs.declared.record.Record.{Record}
+use Rattle.layout.specs.declared.record.Record.the-variants.{Opening, Fund, Draw, Submit, Activate, Withdraw, Reprioritise, Run, Show, Close}
+use Rattle.layout.specs.Faults.{readNumber, placeOf}
 use Rattle.lines.specs.declared.line.Ending.{Ending}
 use Rattle.lines.specs.declared.line.Verdict.{Verdict}
 use Rattle.lines.specs.declared.line.Verdict.the-variants.{Same, Front, Longer}

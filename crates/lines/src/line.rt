@@ -1,6 +1,6 @@
 //! What the lines of a listing say.
 use files::Placed;
-use records::ReadFault;
+use layout::ReadFault;
 
 // A record, with its number in the file, from 1.
 #[derive(Clone, Copy)]

@@ -8,8 +8,8 @@ use crate::line::Entry;
 use crate::line::Refusal;
 use crate::line::Verdict;
 use files::Placed;
-use records::ReadFault;
-use records::Record;
+use layout::ReadFault;
+use layout::Record;
 use std::fmt;
 
 // A record's letter, its kind in words, and its fields by name.

@@ -10,8 +10,8 @@ use Rattle.std.specs.Joined.{joined}
 use Rattle.std.specs.declared.option.Option.{Option}
 use Rattle.std.specs.declared.option.Option.the-variants.{Some, None}
 use Rattle.std.specs.shelf.Lists.{All}
-use Rattle.records.specs.declared.fault.ReadFault.{ReadFault}
-use Rattle.records.specs.Records.{Sized, encode}
+use Rattle.layout.specs.declared.fault.ReadFault.{ReadFault}
+use Rattle.layout.specs.Records.{Sized, encode}
 use Rattle.files.specs.declared.placed.Placed.{Placed}
 use Rattle.files.specs.Files.{said, Follow, Fronts}
 use Rattle.files.proofs.Files.{follow-bytes, follow-within, follow-sized}

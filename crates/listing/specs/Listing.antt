@@ -10,8 +10,8 @@ use Rattle.std.specs.declared.option.Option.{Option}
 use Rattle.std.specs.declared.option.Option.the-variants.{Some, None}
 use Rattle.files.specs.declared.placed.Placed.{Placed}
 use Rattle.files.specs.Files.{Fronts}
-use Rattle.records.specs.declared.fault.ReadFault.{ReadFault}
-use Rattle.records.specs.Faults.{placeOf}
+use Rattle.layout.specs.declared.fault.ReadFault.{ReadFault}
+use Rattle.layout.specs.Faults.{placeOf}
 use Rattle.lines.specs.declared.line.Verdict.{Verdict}
 use Rattle.lines.specs.declared.line.Verdict.the-variants.{Same, Front, Longer}
 use Rattle.listing.specs.declared.Listing.{Listing}

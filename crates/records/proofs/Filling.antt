@@ -8,10 +8,10 @@ use lib.ListN.{length, take, drop, length-append, length-drop}
 use Rattle.std.proofs.shelf.Lists.{drop-drop, take-at, drop-at}
 use Rattle.bytes.specs.BigEndian.{bytesOf, Writes}
 use Rattle.bytes.proofs.Numbers.{length-bytesOf, bytes1}
-use Rattle.records.specs.declared.kind.Kind.{Kind}
-use Rattle.records.specs.declared.record.Record.{Record}
-use Rattle.records.specs.Layout.{letterOf, widths, total}
-use Rattle.records.specs.Records.{Plain, plain, packed, encode, sizeOf}
+use Rattle.layout.specs.declared.kind.Kind.{Kind}
+use Rattle.layout.specs.declared.record.Record.{Record}
+use Rattle.layout.specs.Layout.{letterOf, widths, total}
+use Rattle.layout.specs.Records.{Plain, plain, packed, encode, sizeOf}
 
 -- a space held old; now it begins with some fields, and the rest is as it was
 pub record Filled (old ws vs s : List ℕ) : Type 0 where

@@ -12,8 +12,8 @@ use Rattle.std.proofs.shelf.Elements.{all-take, all-drop}
 use Rattle.std.proofs.shelf.Lists.{take-at, drop-at, drop-drop}
 use Rattle.bytes.specs.BigEndian.{bytesOf, numberOf}
 use Rattle.bytes.proofs.Numbers.{length-bytesOf, reads-back, writes-back}
-use Rattle.records.specs.Layout.{total}
-use Rattle.records.specs.Records.{Fit, packed}
+use Rattle.layout.specs.Layout.{total}
+use Rattle.layout.specs.Records.{Fit, packed}
 use Rattle.records.specs.Parsing.{unpacked}
 
 pub length-packed : (ws vs : List ℕ) → Fit ws vs → length (packed ws vs) ≡ total ws

@@ -10,12 +10,12 @@ use lib.Seq.{drop-cons}
 use Rattle.std.specs.Joined.{joined}
 use Rattle.std.specs.shelf.Lists.{All}
 use Rattle.std.proofs.shelf.Lists.{take-at, drop-at, drop-drop}
-use Rattle.records.specs.declared.kind.Kind.{Kind}
-use Rattle.records.specs.declared.kind.Kind.the-variants.{Opening, Fund, Draw, Submit, Activate, Withdraw, Reprioritise, Run, Show, Close}
-use Rattle.records.specs.declared.fault.ReadFault.{ReadFault}
-use Rattle.records.specs.declared.fault.ReadFault.the-variants.{UnknownLetter, CutBody}
-use Rattle.records.specs.Layout.{letterOf, widths, bodyOf}
-use Rattle.records.specs.Records.{Plain, packed, encode, Sound}
+use Rattle.layout.specs.declared.kind.Kind.{Kind}
+use Rattle.layout.specs.declared.kind.Kind.the-variants.{Opening, Fund, Draw, Submit, Activate, Withdraw, Reprioritise, Run, Show, Close}
+use Rattle.layout.specs.declared.fault.ReadFault.{ReadFault}
+use Rattle.layout.specs.declared.fault.ReadFault.the-variants.{UnknownLetter, CutBody}
+use Rattle.layout.specs.Layout.{letterOf, widths, bodyOf}
+use Rattle.layout.specs.Records.{Plain, packed, encode, Sound}
 use Rattle.records.specs.Reading.{Stands, Refuses}
 use Rattle.records.specs.Laws.{One-stands, None-stands}
 use Rattle.records.proofs.Packing.{length-packed, packed-same}

@@ -13,10 +13,10 @@ use Rattle.std.specs.declared.option.Option.the-variants.{Some, None}
 use Rattle.std.specs.shelf.Digits.{Under}
 use Rattle.std.proofs.shelf.Elements.{all-drop}
 use Rattle.std.proofs.shelf.Lists.{drop-drop}
-use Rattle.records.specs.declared.kind.Kind.{Kind}
-use Rattle.records.specs.Layout.{letterOf, widths, bodyOf}
-use Rattle.records.specs.declared.record.Record.{Record}
-use Rattle.records.specs.Records.{Plain, packed, referenceOf}
+use Rattle.layout.specs.declared.kind.Kind.{Kind}
+use Rattle.layout.specs.Layout.{letterOf, widths, bodyOf}
+use Rattle.layout.specs.declared.record.Record.{Record}
+use Rattle.layout.specs.Records.{Plain, packed, referenceOf}
 use Rattle.records.specs.Reading.{Stands, address, Lent}
 use Rattle.records.specs.Parsing.{unpacked, parsed}
 use Rattle.records.proofs.Packing.{length-packed, fit-unpacked, packed-unpacked}

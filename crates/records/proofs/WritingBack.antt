@@ -6,13 +6,13 @@ use native.Mathlib.Omega.{arith}
 use denote.Ref.{RefT}
 use lib.ListN.{length, take, drop, length-drop}
 use Rattle.std.proofs.shelf.Lists.{length-take-le, take-at}
-use Rattle.records.specs.declared.fault.WriteFault.{WriteFault}
-use Rattle.records.specs.declared.fault.WriteFault.the-variants.{BadReference, ShortSpace}
-use Rattle.records.specs.declared.record.Record.{Record}
-use Rattle.records.specs.declared.record.Record.the-variants.{Opening, Fund, Draw, Submit, Activate, Withdraw, Reprioritise, Run, Show, Close}
-use Rattle.records.specs.Layout.{widths, total}
-use Rattle.records.specs.Records.{plain, Sized, encode, sizeOf}
-use Rattle.records.specs.Faults.{writeNumber}
+use Rattle.layout.specs.declared.fault.WriteFault.{WriteFault}
+use Rattle.layout.specs.declared.fault.WriteFault.the-variants.{BadReference, ShortSpace}
+use Rattle.layout.specs.declared.record.Record.{Record}
+use Rattle.layout.specs.declared.record.Record.the-variants.{Opening, Fund, Draw, Submit, Activate, Withdraw, Reprioritise, Run, Show, Close}
+use Rattle.layout.specs.Layout.{widths, total}
+use Rattle.layout.specs.Records.{plain, Sized, encode, sizeOf}
+use Rattle.layout.specs.Faults.{writeNumber}
 use Rattle.records.specs.Reading.{Stands, Lent}
 use Rattle.records.specs.Writing.{Unwritten}
 use Rattle.records.specs.Laws.{Writes-what-stood}

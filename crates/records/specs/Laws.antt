@@ -4,11 +4,11 @@ use mathlib.Core.List.{List, _++_}
 use Prim.Native.Nat.{ℕ, _+_, _<_}
 use lib.ListN.{length, take, drop}
 use denote.Ref.{RefT}
-use Rattle.records.specs.declared.fault.ReadFault.{ReadFault}
-use Rattle.records.specs.declared.fault.WriteFault.{WriteFault}
-use Rattle.records.specs.declared.record.Record.{Record}
-use Rattle.records.specs.Records.{Plain, plain}
-use Rattle.records.specs.Faults.{writeNumber}
+use Rattle.layout.specs.declared.fault.ReadFault.{ReadFault}
+use Rattle.layout.specs.declared.fault.WriteFault.{WriteFault}
+use Rattle.layout.specs.declared.record.Record.{Record}
+use Rattle.layout.specs.Records.{Plain, plain}
+use Rattle.layout.specs.Faults.{writeNumber}
 use Rattle.records.specs.Reading.{Stands, Lent, Refuses}
 use Rattle.records.specs.Writing.{Written, Unwritten}
 

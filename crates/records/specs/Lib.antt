@@ -1,6 +1,3 @@
-pub mod Layout
-pub mod Records
-pub mod Faults
 pub mod Reading
 pub mod Parsing
 pub mod Writing

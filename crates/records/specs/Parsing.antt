@@ -3,9 +3,9 @@ use mathlib.Core.List.{List, [], _∷_}
 use Prim.Native.Nat.{ℕ, _+_}
 use lib.ListN.{take, drop}
 use Rattle.bytes.specs.BigEndian.{numberOf}
-use Rattle.records.specs.declared.kind.Kind.{Kind}
-use Rattle.records.specs.Layout.{widths}
-use Rattle.records.specs.Records.{Plain}
+use Rattle.layout.specs.declared.kind.Kind.{Kind}
+use Rattle.layout.specs.Layout.{widths}
+use Rattle.layout.specs.Records.{Plain}
 
 -- the numbers of the fields that stand in s from a place on
 abbrev pub unpacked : List ℕ → ℕ → List ℕ → List ℕ

@@ -9,12 +9,12 @@ use Rattle.std.specs.declared.option.Option.{Option}
 use Rattle.std.specs.declared.option.Option.the-variants.{Some, None}
 use Rattle.std.specs.declared.result.Result.{Result}
 use Rattle.std.specs.declared.result.Result.the-variants.{Ok, Err}
-use Rattle.records.specs.declared.kind.Kind.{Kind}
-use Rattle.records.specs.declared.record.Record.{Record}
-use Rattle.records.specs.declared.fault.ReadFault.{ReadFault}
-use Rattle.records.specs.Layout.{letterOf, bodyOf}
-use Rattle.records.specs.Records.{Plain, plain, referenceOf, Sound, encode}
-use Rattle.records.specs.Faults.{readNumber, placeOf}
+use Rattle.layout.specs.declared.kind.Kind.{Kind}
+use Rattle.layout.specs.declared.record.Record.{Record}
+use Rattle.layout.specs.declared.fault.ReadFault.{ReadFault}
+use Rattle.layout.specs.Layout.{letterOf, bodyOf}
+use Rattle.layout.specs.Records.{Plain, plain, referenceOf, Sound, encode}
+use Rattle.layout.specs.Faults.{readNumber, placeOf}
 
 -- the record p stands in s at a place, and next is the place after it
 pub record Stands (s : List ℕ) (at : ℕ) (p : Plain) (next : ℕ) : Type 0 where

@@ -5,10 +5,10 @@ use Prim.Native.Nat.{ℕ, _<_, _≤_}
 use lib.ListN.{length, drop}
 use Rattle.std.specs.declared.result.Result.{Result}
 use Rattle.std.specs.declared.result.Result.the-variants.{Ok, Err}
-use Rattle.records.specs.declared.record.Record.{Record}
-use Rattle.records.specs.declared.fault.WriteFault.{WriteFault}
-use Rattle.records.specs.Records.{plain, Sized, encode, sizeOf}
-use Rattle.records.specs.Faults.{writeNumber}
+use Rattle.layout.specs.declared.record.Record.{Record}
+use Rattle.layout.specs.declared.fault.WriteFault.{WriteFault}
+use Rattle.layout.specs.Records.{plain, Sized, encode, sizeOf}
+use Rattle.layout.specs.Faults.{writeNumber}
 
 -- the record's bytes begin the space, and the rest is as it was
 pub record Written (w : Record) (old new : List ℕ) (n : ℕ) : Type 0 where

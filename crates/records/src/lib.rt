@@ -1,15 +1,12 @@
-//! The records of a day file: one letter of kind, then a body of fixed length, numbers big-endian.
-pub mod fault;
-pub mod kind;
+//! A record of a day file, read and written: one letter of kind, then a body of fixed length, numbers big-endian.
 pub mod laws;
 pub mod read;
-pub mod record;
 pub mod write;
 
-pub use fault::ReadFault;
-pub use fault::WriteFault;
-pub use kind::Kind;
+pub use layout::Kind;
+pub use layout::ReadFault;
+pub use layout::Record;
+pub use layout::WriteFault;
 pub use read::Reader;
 pub use read::read_record;
-pub use record::Record;
 pub use write::write_record;

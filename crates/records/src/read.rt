@@ -3,15 +3,15 @@ ghost use mathlib.Core.Path.{_≡_};
 ghost use Prim.Native.Nat.{_+_, _≤_};
 ghost use lib.ListN.{length, getD, take, drop};
 ghost use Rattle.bytes.specs.BigEndian.{numberOf};
-ghost use Rattle.records.specs.Layout.{bodyOf};
-ghost use Rattle.records.specs.Records.{plain};
+ghost use Rattle.layout.specs.Layout.{bodyOf};
+ghost use Rattle.layout.specs.Records.{plain};
 ghost use Rattle.records.specs.Reading.{Lent, Reads, Nexts};
 ghost use Rattle.records.specs.Parsing.{parsed};
-use crate::fault::ReadFault;
-use crate::kind::Kind;
-use crate::record::Record;
 use bytes::read_u32;
 use bytes::read_u64;
+use layout::Kind;
+use layout::ReadFault;
+use layout::Record;
 
 // The number of the eight bytes of a body from a place on.
 fn eight(body: &[u8], at: usize) -> u64

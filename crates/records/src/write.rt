@@ -4,14 +4,14 @@ ghost use mathlib.Core.List.{_++_};
 ghost use Prim.Native.Nat.{_≤_};
 ghost use lib.ListN.{length, drop};
 ghost use Rattle.std.specs.Orderings.{When};
-ghost use Rattle.records.specs.Records.{plain, Sized, encode, sizeOf};
+ghost use Rattle.layout.specs.Records.{plain, Sized, encode, sizeOf};
 ghost use Rattle.records.specs.Writing.{Wrote};
-use crate::fault::WriteFault;
-use crate::record::Record;
 use bytes::write_bytes;
 use bytes::write_u8;
 use bytes::write_u32;
 use bytes::write_u64;
+use layout::Record;
+use layout::WriteFault;
 
 const REFERENCE_LEN: usize = 8;
 

@@ -5,7 +5,7 @@ use lib.ListN.{length}
 use Rattle.std.specs.Joined.{joined}
 use Rattle.std.specs.Of.Vec.{vec-items}
 use Rattle.std.specs.shelf.Lists.{All}
-use Rattle.records.specs.Records.{Sized, encode}
+use Rattle.layout.specs.Records.{Sized, encode}
 use Rattle.files.specs.declared.placed.Placed.{Placed}
 use Rattle.files.specs.Files.{said}
 use Rattle.listing.specs.Listing.{entriesText, verdictOf}

@@ -3,7 +3,7 @@ use lib.ListN.{take}
 use Rattle.std.specs.Joined.{joined}
 use Rattle.std.proofs.shelf.Lists.{take-all}
 use Rattle.std.proofs.shelf.Results.{err-from-errBy}
-use Rattle.records.specs.Records.{encode}
+use Rattle.layout.specs.Records.{encode}
 use Rattle.files.specs.Files.{said}
 use Rattle.files.proofs.Files.{joined-record, unjoined}
 use Rattle.files.proofs.write.write_file.Needs as need

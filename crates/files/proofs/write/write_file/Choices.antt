@@ -2,7 +2,7 @@ use mathlib.Core.Path.{_≡_}
 use lib.ListN.{take}
 use Rattle.std.specs.Joined.{joined}
 use Rattle.std.specs.Of.Vec.{vec-items}
-use Rattle.records.specs.Records.{encode}
+use Rattle.layout.specs.Records.{encode}
 use Rattle.files.specs.Files.{said}
 use Rattle.files.proofs.write.write_file.Given as given
 

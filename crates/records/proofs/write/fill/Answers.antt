@@ -6,7 +6,7 @@ use native.Mathlib.Omega.{arith}
 use lib.ListN.{length}
 use Rattle.bytes.specs.BigEndian.{bytesOf, numberOf, Writes}
 use Rattle.bytes.proofs.Numbers.{writes-back}
-use Rattle.records.specs.Records.{plain, Sized, sizeOf}
+use Rattle.layout.specs.Records.{plain, Sized, sizeOf}
 use Rattle.records.proofs.Filling.{unfilled, more, done}
 use Rattle.records.proofs.write.fill.Needs as need
 

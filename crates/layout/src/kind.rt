@@ -1,7 +1,7 @@
 //! The kinds of record.
 ghost use mathlib.Core.Path.{_≡_};
 ghost use Rattle.std.specs.Options.{Cases};
-ghost use Rattle.records.specs.Layout.{letterOf, bodyOf};
+ghost use Rattle.layout.specs.Layout.{letterOf, bodyOf};
 
 // The ten kinds of record.
 #[derive(Clone, Copy, Debug, PartialEq, Eq)]

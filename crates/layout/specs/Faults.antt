@@ -1,9 +1,9 @@
 -- The refusals of reader and writer: their numbers and what they name.
 use Prim.Native.Nat.{ℕ}
-use Rattle.records.specs.declared.fault.ReadFault.{ReadFault}
-use Rattle.records.specs.declared.fault.ReadFault.the-variants.{UnknownLetter, CutBody}
-use Rattle.records.specs.declared.fault.WriteFault.{WriteFault}
-use Rattle.records.specs.declared.fault.WriteFault.the-variants.{BadReference, ShortSpace}
+use Rattle.layout.specs.declared.fault.ReadFault.{ReadFault}
+use Rattle.layout.specs.declared.fault.ReadFault.the-variants.{UnknownLetter, CutBody}
+use Rattle.layout.specs.declared.fault.WriteFault.{WriteFault}
+use Rattle.layout.specs.declared.fault.WriteFault.the-variants.{BadReference, ShortSpace}
 
 abbrev pub readNumber : ReadFault → ℕ
 readNumber (UnknownLetter place) = 15

@@ -1,6 +1,6 @@
 //! Why a record is not read or not written.
 ghost use mathlib.Core.Path.{_≡_};
-ghost use Rattle.records.specs.Faults.{readNumber, placeOf, writeNumber};
+ghost use Rattle.layout.specs.Faults.{readNumber, placeOf, writeNumber};
 
 // Why no record could be read, with the place of its letter in the file, from 0.
 #[derive(Clone, Copy, Debug, PartialEq, Eq)]

@@ -1,7 +1,7 @@
 //! A record of a day file.
 ghost use mathlib.Core.Path.{_≡_};
 ghost use Prim.Native.Nat.{_+_};
-ghost use Rattle.records.specs.Records.{plain, referenceOf, sizeOf};
+ghost use Rattle.layout.specs.Records.{plain, referenceOf, sizeOf};
 use crate::kind::Kind;
 
 // A record. A submit's reference is borrowed: the reader lends it from the file that it reads.

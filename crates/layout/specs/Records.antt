@@ -9,11 +9,11 @@ use Rattle.std.specs.shelf.Lists.{Each}
 use Rattle.std.specs.declared.option.Option.{Option}
 use Rattle.std.specs.declared.option.Option.the-variants.{Some, None}
 use Rattle.bytes.specs.BigEndian.{bytesOf, numberOf}
-use Rattle.records.specs.declared.kind.Kind.{Kind}
-use Rattle.records.specs.declared.kind.Kind.the-variants as kinds
-use Rattle.records.specs.declared.record.Record.{Record}
-use Rattle.records.specs.declared.record.Record.the-variants.{Opening, Fund, Draw, Submit, Activate, Withdraw, Reprioritise, Run, Show, Close}
-use Rattle.records.specs.Layout.{letterOf, widths, bodyOf}
+use Rattle.layout.specs.declared.kind.Kind.{Kind}
+use Rattle.layout.specs.declared.kind.Kind.the-variants as kinds
+use Rattle.layout.specs.declared.record.Record.{Record}
+use Rattle.layout.specs.declared.record.Record.the-variants.{Opening, Fund, Draw, Submit, Activate, Withdraw, Reprioritise, Run, Show, Close}
+use Rattle.layout.specs.Layout.{letterOf, widths, bodyOf}
 
 -- a record apart from where its reference lies: its kind, and the number in each field of its body
 pub record Plain : Type 0 where
