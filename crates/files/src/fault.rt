@@ -12,17 +12,17 @@ use layout::fault::WriteFaultEq;
 use layout::fault::WriteFaultPartialEq;
 use std::alloc::AllocError;
 
-// Why a whole file was not read or written.
+/// Why a whole file was not read or written.
 #[derive(Clone, Copy, Debug, PartialEq, Eq)]
 pub enum FileFault {
     Read(ReadFault),
     Write(WriteFault),
-    // There is no memory; this is no refusal of the file, and has no number.
+    /// There is no memory; this is no refusal of the file, and has no number.
     Memory,
 }
 
 impl FileFault {
-    // The number of the refusal, where it is one.
+    /// The number of the refusal, where it is one.
     pub fn number(self) -> Option<u8>
         ensures { λ r. ⌜ r ≡ fileNumber self ⌝ }
     {

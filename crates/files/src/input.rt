@@ -8,17 +8,17 @@ use std::alloc::Global;
 use std::io;
 use std::io::Read;
 
-// The most bytes that are read of a day file.
+/// The most bytes that are read of a day file.
 pub const MOST_BYTES: usize = 65_536;
 
-// What was read of an input, and whether there is more.
+/// What was read of an input, and whether there is more.
 #[derive(Drop)]
 pub struct Input {
     pub bytes: Vec<u8>,
     pub has_more: bool,
 }
 
-// Reads at most `MOST_BYTES`, and one byte beyond them to see whether there is one.
+/// Reads at most `MOST_BYTES`, and one byte beyond them to see whether there is one.
 pub fn read_input<R: Read + Drop>(heap: Global, from: R) -> io::Result<Input>
     ensures most { λ r. ⌜ made r (λ input. vec-len (input .bytes) ≤ 65536) ⌝ }
     ensures more { λ r. ⌜ made r (λ input. input .«has_more» ≡ true → vec-len (input .bytes) ≡ 65536) ⌝ }

@@ -10,7 +10,7 @@ use records::Reader;
 use std::alloc::AllocError;
 use std::alloc::Global;
 
-// Reads a file to its end or to a refusal, and keeps what was read before it.
+/// Reads a file to its end or to a refusal, and keeps what was read before it.
 pub fn read_front<'a>(heap: Global, input: &'a [u8]) -> Result<Front<'a>, AllocError>
     ensures { λ r. ⌜ made r (λ front. Fronts (input .entry) (vec-items (front .records)) (front .stop)) ⌝ }
 {
@@ -35,7 +35,7 @@ pub fn read_front<'a>(heap: Global, input: &'a [u8]) -> Result<Front<'a>, AllocE
     }
 }
 
-// All the records of a file, or the refusal that stopped the reader.
+/// All the records of a file, or the refusal that stopped the reader.
 pub fn read_file<'a>(heap: Global, input: &'a [u8]) -> Result<Vec<Placed<'a>>, FileFault>
     ensures { λ r. ⌜ Filed (input .entry) r ⌝ }
 {

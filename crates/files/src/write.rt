@@ -12,7 +12,7 @@ use std::alloc::Global;
 // The bytes of the longest kind of record, an opening.
 const LONGEST: usize = 26;
 
-// Adds a record's bytes to the end of a file.
+/// Adds a record's bytes to the end of a file.
 pub fn append_record(file: &mut Vec<u8>, what: &Record<'_>) -> Result<(), FileFault>
     ensures { λ r. ⌜ Appended (now (what .entry)) (vec-items (now (file .entry))) (vec-items (now (file .exit))) r ⌝ }
 {
@@ -22,7 +22,7 @@ pub fn append_record(file: &mut Vec<u8>, what: &Record<'_>) -> Result<(), FileFa
     Ok(())
 }
 
-// Writes records to a new file, one after another.
+/// Writes records to a new file, one after another.
 pub fn write_file(heap: Global, records: &[Placed<'_>]) -> Result<Vec<u8>, FileFault>
     ensures { λ r. ⌜ Joined (now (records .entry)) r ⌝ }
 {

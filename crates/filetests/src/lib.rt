@@ -1,5 +1,7 @@
 //! What reader, writer and listing do on examples.
 #[cfg(test)]
+mod numbers;
+#[cfg(test)]
 mod reading;
 #[cfg(test)]
 mod samples;

@@ -15,7 +15,7 @@ pub const KINDS: [Kind; 10] = [
     Kind::Close,
 ];
 
-// The record of a kind whose bytes `bytes_of` has, with a reference of one's own.
+/// The record of a kind whose bytes `bytes_of` has, with a reference of one's own.
 pub fn sample(kind: Kind, reference: &[u8]) -> Record<'_> {
     match kind {
         Kind::Opening => Record::Opening {
@@ -59,7 +59,7 @@ pub fn sample(kind: Kind, reference: &[u8]) -> Record<'_> {
     }
 }
 
-// The reference in `bytes_of`.
+/// The reference in `bytes_of`.
 pub const REFERENCE: &[u8] = b"INV-0001";
 
 pub fn bytes_of(kind: Kind) -> &'static [u8] {
@@ -79,7 +79,7 @@ pub fn bytes_of(kind: Kind) -> &'static [u8] {
     }
 }
 
-// Whether a record is the sample of its kind.
+/// Whether a record is the sample of its kind.
 pub fn is_sample(record: &Record<'_>) -> bool {
     match *record {
         Record::Opening {

@@ -2,26 +2,26 @@
 ghost use mathlib.Core.Path.{_≡_};
 ghost use Rattle.layout.specs.Faults.{readNumber, placeOf, writeNumber};
 
-// Why no record could be read, with the place of its letter in the file, from 0.
+/// Why no record could be read, with the place of its letter in the file, from 0.
 #[derive(Clone, Copy, Debug, PartialEq, Eq)]
 pub enum ReadFault {
-    // No kind has the letter.
+    /// No kind has the letter.
     UnknownLetter { place: usize },
-    // The file ends inside the body.
+    /// The file ends inside the body.
     CutBody { place: usize },
 }
 
-// Why a record was not written.
+/// Why a record was not written.
 #[derive(Clone, Copy, Debug, PartialEq, Eq)]
 pub enum WriteFault {
-    // Its reference is not of eight bytes.
+    /// Its reference is not of eight bytes.
     BadReference,
-    // The space is shorter than the record.
+    /// The space is shorter than the record.
     ShortSpace,
 }
 
 impl ReadFault {
-    // The number of the refusal.
+    /// The number of the refusal.
     pub fn number(self) -> u8
         ensures { λ r. ⌜ r ≡ readNumber self ⌝ }
     {
@@ -31,7 +31,7 @@ impl ReadFault {
         }
     }
 
-    // The place of the letter.
+    /// The place of the letter.
     pub fn place(self) -> usize
         ensures { λ r. ⌜ r ≡ placeOf self ⌝ }
     {
@@ -42,7 +42,7 @@ impl ReadFault {
 }
 
 impl WriteFault {
-    // The number of the refusal.
+    /// The number of the refusal.
     pub fn number(self) -> u8
         ensures { λ r. ⌜ r ≡ writeNumber self ⌝ }
     {

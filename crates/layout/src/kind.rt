@@ -3,7 +3,7 @@ ghost use mathlib.Core.Path.{_≡_};
 ghost use Rattle.std.specs.Options.{Cases};
 ghost use Rattle.layout.specs.Layout.{letterOf, bodyOf};
 
-// The ten kinds of record.
+/// The ten kinds of record.
 #[derive(Clone, Copy, Debug, PartialEq, Eq)]
 pub enum Kind {
     Opening,
@@ -19,7 +19,7 @@ pub enum Kind {
 }
 
 impl Kind {
-    // The kind that a letter stands for.
+    /// The kind that a letter stands for.
     pub fn of(letter: u8) -> Option<Kind>
         ensures { λ r. ⌜ Cases r ((k : Kind) → letterOf k ≡ letter → ⊥) (λ k. letterOf k ≡ letter) ⌝ }
     {
@@ -38,7 +38,7 @@ impl Kind {
         }
     }
 
-    // The letter that a record of this kind begins with.
+    /// The letter that a record of this kind begins with.
     pub fn letter(self) -> u8
         ensures { λ r. ⌜ r ≡ letterOf self ⌝ }
     {
@@ -56,7 +56,7 @@ impl Kind {
         }
     }
 
-    // How many bytes follow the letter.
+    /// How many bytes follow the letter.
     pub fn body_len(self) -> usize
         ensures { λ r. ⌜ r ≡ bodyOf self ⌝ }
     {

@@ -4,7 +4,7 @@ ghost use Prim.Native.Nat.{_+_};
 ghost use Rattle.layout.specs.Records.{plain, referenceOf, sizeOf};
 use crate::kind::Kind;
 
-// A record. A submit's reference is borrowed: the reader lends it from the file that it reads.
+/// A record. A submit's reference is borrowed: the reader lends it from the file that it reads.
 #[derive(Clone, Copy, Debug)]
 pub enum Record<'a> {
     Opening {
@@ -65,14 +65,14 @@ impl<'a> Record<'a> {
         }
     }
 
-    // How many bytes it has in a file, with its letter.
+    /// How many bytes it has in a file, with its letter.
     pub fn size(&self) -> usize
         ensures { λ r. ⌜ r ≡ sizeOf (plain (now (self .entry))) ⌝ }
     {
         1 + self.kind().body_len()
     }
 
-    // The reference of a submit.
+    /// The reference of a submit.
     pub fn reference(&self) -> Option<&'a [u8]>
         ensures { λ r. ⌜ r ≡ referenceOf (now (self .entry)) ⌝ }
     {

@@ -34,7 +34,7 @@ impl fmt::Display for HexByte as HexByteDisplay {
     }
 }
 
-// Some bytes, one after another.
+/// Some bytes, one after another.
 #[derive(Clone, Copy)]
 pub struct Hex<'a>(pub &'a [u8]);
 

@@ -2,32 +2,32 @@
 use files::Placed;
 use layout::ReadFault;
 
-// A record, with its number in the file, from 1.
+/// A record, with its number in the file, from 1.
 #[derive(Clone, Copy)]
 pub struct Entry<'a> {
     pub number: usize,
     pub placed: Placed<'a>,
 }
 
-// A refusal, with the number of the record that could not be read.
+/// A refusal, with the number of the record that could not be read.
 #[derive(Clone, Copy)]
 pub struct Refusal {
     pub number: usize,
     pub fault: ReadFault,
 }
 
-// How what was written back compares with the file.
+/// How what was written back compares with the file.
 #[derive(Clone, Copy, Debug, PartialEq, Eq)]
 pub enum Verdict {
-    // It is the file.
+    /// It is the file.
     Same,
-    // It is the front of a file of so many bytes, up to a refusal.
+    /// It is the front of a file of so many bytes, up to a refusal.
     Front { of: usize },
-    // The file is longer than what was read of it.
+    /// The file is longer than what was read of it.
     Longer,
 }
 
-// The last line: how many records and bytes were written back.
+/// The last line: how many records and bytes were written back.
 #[derive(Clone, Copy)]
 pub struct Ending {
     pub records: usize,

@@ -31,7 +31,7 @@ use std::alloc::AllocError;
 use std::alloc::Global;
 use std::fmt;
 
-// The text of a file's listing, and how what was written back compares with the file.
+/// The text of a file's listing, and how what was written back compares with the file.
 #[derive(Drop)]
 pub struct Listing {
     pub text: String,
@@ -97,8 +97,8 @@ fn written_back(heap: Global, records: &[Placed<'_>]) -> Result<Vec<u8>, AllocEr
     }
 }
 
-// Lists a file, writes what was read out again, and says whether that is the file; `is_cut` says that the file has more
-// bytes than were read.
+/// Lists a file, writes what was read out again, and says whether that is the file; `is_cut` says that the file has more
+/// bytes than were read.
 pub fn list(heap: Global, file: &[u8], is_cut: bool) -> Result<Listing, AllocError>
     ensures { λ r. ⌜ made r (λ listing. Lists (file .entry) «is_cut» listing) ⌝ }
 {

@@ -77,7 +77,7 @@ fn decode<'a>(kind: Kind, body: &'a [u8]) -> Record<'a>
     }
 }
 
-// The record whose letter stands at a place, and the place after it; `None` at or past the file's end.
+/// The record whose letter stands at a place, and the place after it; `None` at or past the file's end.
 pub fn read_record<'a>(input: &'a [u8], at: usize) -> Result<Option<(Record<'a>, usize)>, ReadFault>
     ensures { λ r. ⌜ Reads (input .entry) at r ⌝ }
 {
@@ -95,7 +95,7 @@ pub fn read_record<'a>(input: &'a [u8], at: usize) -> Result<Option<(Record<'a>,
     Ok(Some((decode(kind, rest), at + 1 + size)))
 }
 
-// Reads a file record by record.
+/// Reads a file record by record.
 #[derive(Drop)]
 pub struct Reader<'a> {
     input: &'a [u8],
@@ -103,7 +103,7 @@ pub struct Reader<'a> {
 }
 
 impl<'a> Reader<'a> {
-    // A reader that stands at the start of a file.
+    /// A reader that stands at the start of a file.
     pub fn new(input: &'a [u8]) -> Reader<'a>
         ensures input { λ r. ⌜ r .input ≡ input .entry ⌝ }
         ensures at { λ r. ⌜ r .at ≡ 0 ⌝ }
@@ -111,14 +111,14 @@ impl<'a> Reader<'a> {
         Reader { input, at: 0 }
     }
 
-    // The place of the next record's letter.
+    /// The place of the next record's letter.
     pub fn place(&self) -> usize
         ensures { λ r. ⌜ r ≡ now (self .entry) .at ⌝ }
     {
         self.at
     }
 
-    // The next record, or `None` at the file's end; a refusal leaves the reader where it stands.
+    /// The next record, or `None` at the file's end; a refusal leaves the reader where it stands.
     pub fn next_record(&mut self) -> Result<Option<Record<'a>>, ReadFault>
         ensures same { λ _. ⌜ now (self .exit) .input ≡ now (self .entry) .input ⌝ }
         ensures answer { λ r. ⌜ Nexts (now (self .entry) .input) (now (self .entry) .at) (now (self .exit) .at) r ⌝ }

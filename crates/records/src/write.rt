@@ -88,7 +88,7 @@ fn fill(what: &Record<'_>, space: &mut [u8])
     }
 }
 
-// Puts a record's bytes at the start of a space, leaves the rest, and answers how many they are.
+/// Puts a record's bytes at the start of a space, leaves the rest, and answers how many they are.
 pub fn write_record(what: &Record<'_>, space: &mut [u8]) -> Result<usize, WriteFault>
     ensures { λ r. ⌜ Wrote (now (what .entry)) (now (space .entry)) (now (space .exit)) r ⌝ }
 {
