@@ -24,7 +24,7 @@ pub enum FileFault {
 impl FileFault {
     /// The number of the refusal, where it is one.
     pub fn number(self) -> Option<u8>
-        ensures { λ r. ⌜ r ≡ fileNumber self ⌝ }
+        ensures value { λ r. ⌜ r ≡ fileNumber self ⌝ }
     {
         match self {
             FileFault::Read(fault) => Some(fault.number()),

@@ -12,7 +12,7 @@ use std::alloc::Global;
 
 /// Reads a file to its end or to a refusal, and keeps what was read before it.
 pub fn read_front<'a>(heap: Global, input: &'a [u8]) -> Result<Front<'a>, AllocError>
-    ensures { λ r. ⌜ made r (λ front. Fronts (input .entry) (vec-items (front .records)) (front .stop)) ⌝ }
+    ensures answer { λ r. ⌜ made r (λ front. Fronts (input .entry) (vec-items (front .records)) (front .stop)) ⌝ }
 {
     let mut records = Vec::new(heap);
     let mut reader = Reader::new(input);
@@ -37,7 +37,7 @@ pub fn read_front<'a>(heap: Global, input: &'a [u8]) -> Result<Front<'a>, AllocE
 
 /// All the records of a file, or the refusal that stopped the reader.
 pub fn read_file<'a>(heap: Global, input: &'a [u8]) -> Result<Vec<Placed<'a>>, FileFault>
-    ensures { λ r. ⌜ Filed (input .entry) r ⌝ }
+    ensures answer { λ r. ⌜ Filed (input .entry) r ⌝ }
 {
     let Front { records, stop } = read_front(heap, input)?;
     match stop {

@@ -14,7 +14,7 @@ const LONGEST: usize = 26;
 
 /// Adds a record's bytes to the end of a file.
 pub fn append_record(file: &mut Vec<u8>, what: &Record<'_>) -> Result<(), FileFault>
-    ensures { λ r. ⌜ Appended (now (what .entry)) (vec-items (now (file .entry))) (vec-items (now (file .exit))) r ⌝ }
+    ensures answer { λ r. ⌜ Appended (now (what .entry)) (vec-items (now (file .entry))) (vec-items (now (file .exit))) r ⌝ }
 {
     let mut space = [0u8; LONGEST];
     let size = write_record(what, &mut space)?;
@@ -24,7 +24,7 @@ pub fn append_record(file: &mut Vec<u8>, what: &Record<'_>) -> Result<(), FileFa
 
 /// Writes records to a new file, one after another.
 pub fn write_file(heap: Global, records: &[Placed<'_>]) -> Result<Vec<u8>, FileFault>
-    ensures { λ r. ⌜ Joined (now (records .entry)) r ⌝ }
+    ensures answer { λ r. ⌜ Joined (now (records .entry)) r ⌝ }
 {
     let mut file = Vec::new(heap);
     for placed in records {

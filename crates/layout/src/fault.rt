@@ -23,7 +23,7 @@ pub enum WriteFault {
 impl ReadFault {
     /// The number of the refusal.
     pub fn number(self) -> u8
-        ensures { λ r. ⌜ r ≡ readNumber self ⌝ }
+        ensures value { λ r. ⌜ r ≡ readNumber self ⌝ }
     {
         match self {
             ReadFault::UnknownLetter { .. } => 15,
@@ -33,7 +33,7 @@ impl ReadFault {
 
     /// The place of the letter.
     pub fn place(self) -> usize
-        ensures { λ r. ⌜ r ≡ placeOf self ⌝ }
+        ensures value { λ r. ⌜ r ≡ placeOf self ⌝ }
     {
         match self {
             ReadFault::UnknownLetter { place } | ReadFault::CutBody { place } => place,
@@ -44,7 +44,7 @@ impl ReadFault {
 impl WriteFault {
     /// The number of the refusal.
     pub fn number(self) -> u8
-        ensures { λ r. ⌜ r ≡ writeNumber self ⌝ }
+        ensures value { λ r. ⌜ r ≡ writeNumber self ⌝ }
     {
         match self {
             WriteFault::BadReference => 16,

@@ -21,7 +21,7 @@ pub enum Kind {
 impl Kind {
     /// The kind that a letter stands for.
     pub fn of(letter: u8) -> Option<Kind>
-        ensures { λ r. ⌜ Cases r ((k : Kind) → letterOf k ≡ letter → ⊥) (λ k. letterOf k ≡ letter) ⌝ }
+        ensures answer { λ r. ⌜ Cases r ((k : Kind) → letterOf k ≡ letter → ⊥) (λ k. letterOf k ≡ letter) ⌝ }
     {
         match letter {
             b'O' => Some(Kind::Opening),
@@ -40,7 +40,7 @@ impl Kind {
 
     /// The letter that a record of this kind begins with.
     pub fn letter(self) -> u8
-        ensures { λ r. ⌜ r ≡ letterOf self ⌝ }
+        ensures value { λ r. ⌜ r ≡ letterOf self ⌝ }
     {
         match self {
             Kind::Opening => b'O',
@@ -58,7 +58,7 @@ impl Kind {
 
     /// How many bytes follow the letter.
     pub fn body_len(self) -> usize
-        ensures { λ r. ⌜ r ≡ bodyOf self ⌝ }
+        ensures value { λ r. ⌜ r ≡ bodyOf self ⌝ }
     {
         match self {
             Kind::Opening => 25,

@@ -49,7 +49,7 @@ pub enum Record<'a> {
 
 impl<'a> Record<'a> {
     pub fn kind(&self) -> Kind
-        ensures { λ r. ⌜ r ≡ plain (now (self .entry)) .kind ⌝ }
+        ensures value { λ r. ⌜ r ≡ plain (now (self .entry)) .kind ⌝ }
     {
         match self {
             Record::Opening { .. } => Kind::Opening,
@@ -67,14 +67,14 @@ impl<'a> Record<'a> {
 
     /// How many bytes it has in a file, with its letter.
     pub fn size(&self) -> usize
-        ensures { λ r. ⌜ r ≡ sizeOf (plain (now (self .entry))) ⌝ }
+        ensures value { λ r. ⌜ r ≡ sizeOf (plain (now (self .entry))) ⌝ }
     {
         1 + self.kind().body_len()
     }
 
     /// The reference of a submit.
     pub fn reference(&self) -> Option<&'a [u8]>
-        ensures { λ r. ⌜ r ≡ referenceOf (now (self .entry)) ⌝ }
+        ensures value { λ r. ⌜ r ≡ referenceOf (now (self .entry)) ⌝ }
     {
         match self {
             Record::Submit { reference, .. } => Some(*reference),

@@ -11,7 +11,7 @@ use std::fmt;
 // A number below sixteen as a digit.
 fn digit(n: u8) -> char
     requires { ⌜ n < 16 ⌝ }
-    ensures { λ r. ⌜ r ≡ glyph false n ⌝ }
+    ensures value { λ r. ⌜ r ≡ glyph false n ⌝ }
 {
     if n < 10 {
         char::from(b'0' + n)

@@ -40,7 +40,7 @@ pub struct Listing {
 
 // Adds a line to a text.
 fn add_line<D: fmt::Display + Drop>(text: &mut String, line: D) -> Result<(), AllocError>
-    ensures { λ r. ⌜ made r (λ _. Cases (then (D·Display .shown line) (Some (10 ∷ []))) (Unit {0}) (λ bs. string-bytes (now (text .exit)) ≡ string-bytes (now (text .entry)) ++ bs)) ⌝ }
+    ensures text { λ r. ⌜ made r (λ _. Cases (then (D·Display .shown line) (Some (10 ∷ []))) (Unit {0}) (λ bs. string-bytes (now (text .exit)) ≡ string-bytes (now (text .entry)) ++ bs)) ⌝ }
 {
     match text.writeln(line) {
         Ok(()) => Ok(()),
@@ -50,7 +50,7 @@ fn add_line<D: fmt::Display + Drop>(text: &mut String, line: D) -> Result<(), Al
 
 // A line for each record, numbered from 1.
 fn entries_text(heap: Global, records: &[Placed<'_>]) -> Result<String, AllocError>
-    ensures { λ r. ⌜ made r (λ text. string-bytes text ≡ entriesText 1 (now (records .entry))) ⌝ }
+    ensures text { λ r. ⌜ made r (λ text. string-bytes text ≡ entriesText 1 (now (records .entry))) ⌝ }
 {
     let mut text = String::new(heap);
     for (i, placed) in records.iter().enumerate() {
@@ -63,7 +63,7 @@ fn entries_text(heap: Global, records: &[Placed<'_>]) -> Result<String, AllocErr
 
 // Adds a line for a refusal, if there is one.
 fn add_stop(text: &mut String, number: usize, stop: Option<ReadFault>) -> Result<(), AllocError>
-    ensures { λ r. ⌜ made r (λ _. string-bytes (now (text .exit)) ≡ string-bytes (now (text .entry)) ++ stopText number stop) ⌝ }
+    ensures text { λ r. ⌜ made r (λ _. string-bytes (now (text .exit)) ≡ string-bytes (now (text .entry)) ++ stopText number stop) ⌝ }
 {
     match stop {
         Some(fault) => add_line(text, Refusal { number, fault }),
@@ -73,7 +73,7 @@ fn add_stop(text: &mut String, number: usize, stop: Option<ReadFault>) -> Result
 
 // How a copy compares with the file that it was made from, of which there may be more than was read.
 fn compare(file: &[u8], copy: &[u8], is_cut: bool) -> Verdict
-    ensures { λ r. ⌜ Judged (now (file .entry)) (now (copy .entry)) «is_cut» r ⌝ }
+    ensures answer { λ r. ⌜ Judged (now (file .entry)) (now (copy .entry)) «is_cut» r ⌝ }
 {
     if is_cut {
         return Verdict::Longer;
@@ -88,7 +88,7 @@ fn compare(file: &[u8], copy: &[u8], is_cut: bool) -> Verdict
 // The bytes of records that were read from a file, written out again.
 fn written_back(heap: Global, records: &[Placed<'_>]) -> Result<Vec<u8>, AllocError>
     requires { ⌜ All (λ w. Sized (w .«record»)) (now records) ⌝ }
-    ensures { λ r. ⌜ made r (λ v. vec-items v ≡ joined encode (said (now (records .entry)))) ⌝ }
+    ensures copy { λ r. ⌜ made r (λ v. vec-items v ≡ joined encode (said (now (records .entry)))) ⌝ }
 {
     match write_file(heap, records) {
         Ok(copy) => Ok(copy),
@@ -100,7 +100,7 @@ fn written_back(heap: Global, records: &[Placed<'_>]) -> Result<Vec<u8>, AllocEr
 /// Lists a file, writes what was read out again, and says whether that is the file; `is_cut` says that the file has more
 /// bytes than were read.
 pub fn list(heap: Global, file: &[u8], is_cut: bool) -> Result<Listing, AllocError>
-    ensures { λ r. ⌜ made r (λ listing. Lists (file .entry) «is_cut» listing) ⌝ }
+    ensures answer { λ r. ⌜ made r (λ listing. Lists (file .entry) «is_cut» listing) ⌝ }
 {
     let Front { records, stop } = read_front(heap, file)?;
     let copy = written_back(heap, records.as_slice())?;

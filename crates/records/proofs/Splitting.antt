@@ -2,7 +2,7 @@
 use mathlib.Core.Path.{_≡_, refl, sym, ap, subst, _∙_}
 use mathlib.Core.Bool.{cond}
 use mathlib.Core.List.{List, [], _∷_, _++_, append-assoc}
-use Prim.Native.Nat.{ℕ, _+_, _<_}
+use Prim.Native.Nat.{ℕ, _+_, _<_, _≤_}
 use native.Mathlib.Omega.{arith}
 use lib.Dec.{eqb}
 use lib.ListN.{length, getD, take, drop, length-append, length-drop, take-append-drop}
@@ -65,3 +65,7 @@ none-stands s at (CutBody place) h p next st =
     let cut = h .cut refl in
     let same : cut .0 ≡ p .kind = same-kind _ _ (cut .1 ∙ sym (letter-at s at p next st)) in
     omega (arith, cut .2, ap bodyOf same, length-packed (widths (p .kind)) (p .values) (st .sound), st .after, st .within)
+
+-- nor does one at or past the end
+pub none-past : (s : List ℕ) (at : ℕ) → length s ≤ at → (p : Plain) (next : ℕ) → Stands s at p next → ⊥
+none-past s at h p next st = omega (arith, st .after, st .within)

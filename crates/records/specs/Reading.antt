@@ -40,11 +40,17 @@ pub record Refuses (s : List ℕ) (at : ℕ) (f : ReadFault) : Type 0 where
   pub cut : readNumber f ≡ 16 → (k : Kind) × (letterOf k ≡ getD s at 0) × (length s < at + 1 + bodyOf k)
 
 -- what a read at a place answers: no more records at or past the end, else the record whose letter stands there,
--- with the place after it and its reference lent from bytes 13 to 20 after the letter, or a refusal
+-- with the place after it and its reference lent from the thirteenth byte after the letter on, or a refusal
 abbrev pub Reads : RefT (List ℕ) → ℕ → Result (Option (Record × ℕ)) ReadFault → Type 0
 Reads file at (Ok None) = length (file .now) ≤ at
 Reads file at (Ok (Some (w, next))) = Stands (file .now) at (plain w) next × Lent file (at + 13) w
 Reads file at (Err f) = Refuses (file .now) at f
+
+-- what is answered is all that stands at the place
+abbrev pub Alone : List ℕ → ℕ → Result (Option (Record × ℕ)) ReadFault → Type 0
+Alone s at (Ok None) = (p : Plain) (next : ℕ) → Stands s at p next → ⊥
+Alone s at (Ok (Some (w, next))) = (p : Plain) (n : ℕ) → Stands s at p n → (p ≡ plain w) × (n ≡ next)
+Alone s at (Err f) = (p : Plain) (next : ℕ) → Stands s at p next → ⊥
 
 -- what the next read of a reader answers, and the place at which it stands after
 abbrev pub Nexts : RefT (List ℕ) → ℕ → ℕ → Result (Option Record) ReadFault → Type 0

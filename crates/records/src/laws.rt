@@ -3,7 +3,7 @@ ghost use Rattle.records.specs.Laws.{Writes-what-stood, One-stands, None-stand
 
 /// What is read and written again is the same bytes.
 pub fn what_is_read_is_written_back()
-    ensures { λ _. ⌜ Writes-what-stood ⌝ }
+    ensures same { λ _. ⌜ Writes-what-stood ⌝ }
 {}
 
 /// At each place stands at most one record, and none where the reader refuses.

@@ -5,7 +5,7 @@ ghost use lib.ListN.{length, getD, take, drop};
 ghost use Rattle.bytes.specs.BigEndian.{numberOf};
 ghost use Rattle.layout.specs.Layout.{bodyOf};
 ghost use Rattle.layout.specs.Records.{plain};
-ghost use Rattle.records.specs.Reading.{Lent, Reads, Nexts};
+ghost use Rattle.records.specs.Reading.{Lent, Reads, Alone, Nexts};
 ghost use Rattle.records.specs.Parsing.{parsed};
 use bytes::read_u32;
 use bytes::read_u64;
@@ -16,7 +16,7 @@ use layout::Record;
 // The number of the eight bytes of a body from a place on.
 fn eight(body: &[u8], at: usize) -> u64
     requires { ⌜ at + 8 ≤ length (now body) ⌝ }
-    ensures { λ r. ⌜ r ≡ numberOf (take 8 (drop at (now (body .entry)))) ⌝ }
+    ensures value { λ r. ⌜ r ≡ numberOf (take 8 (drop at (now (body .entry)))) ⌝ }
 {
     read_u64(body, at).unwrap()
 }
@@ -24,7 +24,7 @@ fn eight(body: &[u8], at: usize) -> u64
 // The number of the four bytes of a body from a place on.
 fn four(body: &[u8], at: usize) -> u32
     requires { ⌜ at + 4 ≤ length (now body) ⌝ }
-    ensures { λ r. ⌜ r ≡ numberOf (take 4 (drop at (now (body .entry)))) ⌝ }
+    ensures value { λ r. ⌜ r ≡ numberOf (take 4 (drop at (now (body .entry)))) ⌝ }
 {
     read_u32(body, at).unwrap()
 }
@@ -79,7 +79,8 @@ fn decode<'a>(kind: Kind, body: &'a [u8]) -> Record<'a>
 
 /// The record whose letter stands at a place, and the place after it; `None` at or past the file's end.
 pub fn read_record<'a>(input: &'a [u8], at: usize) -> Result<Option<(Record<'a>, usize)>, ReadFault>
-    ensures { λ r. ⌜ Reads (input .entry) at r ⌝ }
+    ensures answer { λ r. ⌜ Reads (input .entry) at r ⌝ }
+    ensures alone { λ r. ⌜ Alone (now (input .entry)) at r ⌝ }
 {
     if at >= input.len() {
         return Ok(None);
@@ -113,7 +114,7 @@ impl<'a> Reader<'a> {
 
     /// The place of the next record's letter.
     pub fn place(&self) -> usize
-        ensures { λ r. ⌜ r ≡ now (self .entry) .at ⌝ }
+        ensures value { λ r. ⌜ r ≡ now (self .entry) .at ⌝ }
     {
         self.at
     }

@@ -17,7 +17,7 @@ const REFERENCE_LEN: usize = 8;
 
 // Whether the reference, where there is one, has its eight bytes.
 fn is_sized(what: &Record<'_>) -> bool
-    ensures { λ r. ⌜ When r (Sized (now (what .entry))) (Sized (now (what .entry)) → ⊥) ⌝ }
+    ensures answer { λ r. ⌜ When r (Sized (now (what .entry))) (Sized (now (what .entry)) → ⊥) ⌝ }
 {
     match what.reference() {
         Some(reference) => reference.len() == REFERENCE_LEN,
@@ -29,7 +29,7 @@ fn is_sized(what: &Record<'_>) -> bool
 fn fill(what: &Record<'_>, space: &mut [u8])
     requires sized { ⌜ Sized (now what) ⌝ }
     requires room { ⌜ sizeOf (plain (now what)) ≤ length (now space) ⌝ }
-    ensures { λ _. ⌜ now (space .exit) ≡ encode (plain (now (what .entry))) ++ drop (sizeOf (plain (now (what .entry)))) (now (space .entry)) ⌝ }
+    ensures after { λ _. ⌜ now (space .exit) ≡ encode (plain (now (what .entry))) ++ drop (sizeOf (plain (now (what .entry)))) (now (space .entry)) ⌝ }
 {
     write_u8(space, 0, what.kind().letter());
     match *what {
@@ -90,7 +90,7 @@ fn fill(what: &Record<'_>, space: &mut [u8])
 
 /// Puts a record's bytes at the start of a space, leaves the rest, and answers how many they are.
 pub fn write_record(what: &Record<'_>, space: &mut [u8]) -> Result<usize, WriteFault>
-    ensures { λ r. ⌜ Wrote (now (what .entry)) (now (space .entry)) (now (space .exit)) r ⌝ }
+    ensures answer { λ r. ⌜ Wrote (now (what .entry)) (now (space .entry)) (now (space .exit)) r ⌝ }
 {
     if !is_sized(what) {
         return Err(WriteFault::BadReference);

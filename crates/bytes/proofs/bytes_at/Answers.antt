@@ -19,4 +19,4 @@ front n at s rest (Some y) e long h = (omega (arith, h .enough), h .same ∙ ap 
 pub returns-in-Some : need.returns-in-Some
 returns-in-Some g c =
     let told = c .in-Some .ensures tt .finds .0 in
-    front (g .N) (c .args .at) (c .args .input .now) (c .in-Some .rest .now) (c .first-chunk .result) (told .2) (told .3) (c .first-chunk .ensures .cases)
+    record { answer = front (g .N) (c .args .at) (c .args .input .now) (c .in-Some .rest .now) (c .first-chunk .result) (told .2) (told .3) (c .first-chunk .ensures .cases) }

@@ -6,4 +6,4 @@ use Rattle.bytes.proofs.Numbers.{bytes8}
 use Rattle.bytes.proofs.write_u64.Needs as need
 
 pub returns : need.returns
-returns c = subst (λ (bs : List ℕ). Writes bs (c .args .at) (c .args .space .now) (c .write-bytes .last .space) (c .write-bytes .result)) (c .to-be-bytes .ensures ∙ sym (bytes8 (c .args .number))) (c .write-bytes .ensures .answer)
+returns c = record { answer = subst (λ (bs : List ℕ). Writes bs (c .args .at) (c .args .space .now) (c .write-bytes .last .space) (c .write-bytes .result)) (c .to-be-bytes .ensures ∙ sym (bytes8 (c .args .number))) (c .write-bytes .ensures .answer) }

@@ -15,21 +15,23 @@ use Rattle.listing.proofs.list.Needs as need
 pub written-back-requires : need.written-back-requires
 written-back-requires c κs =
     let r = c .in-Continue-records in
-    subst (λ (ws : List Placed). All (λ w. Sized (w .«record»)) ws) (sym (c .as-slice .ensures .value)) (sized (c .args .file) (vec-items (r .field-0 .records)) _ (r .ensures tt))
+    subst (λ (ws : List Placed). All (λ w. Sized (w .«record»)) ws) (sym (c .as-slice .ensures .value)) (sized (c .args .file) (vec-items (r .field-0 .records)) _ (r .ensures tt .answer))
 
 pub returns : need.returns
 returns c =
     let ws = vec-items (c .in-Continue-records .field-0 .records) in
     let stop = c .in-Continue-records .field-0 .stop in
-    let front = c .in-Continue-records .ensures tt in
+    let front = c .in-Continue-records .ensures tt .answer in
     let file = c .args .file in
     let copy = c .as-slice-2 .result .now in
-    let same : copy ≡ joined encode (said ws) = c .as-slice-2 .ensures .value ∙ c .in-Continue-copy .ensures tt ∙ ap (λ xs. joined encode (said xs)) (c .as-slice .ensures .value) in
-    let verdict : c .compare-verdict .result ≡ verdictOf (file .now) (c .args .is-cut) stop = verdict-is file ws copy (c .args .is-cut) stop _ front same (c .compare-verdict .ensures) in
+    let same : copy ≡ joined encode (said ws) = c .as-slice-2 .ensures .value ∙ c .in-Continue-copy .ensures tt .copy ∙ ap (λ xs. joined encode (said xs)) (c .as-slice .ensures .value) in
+    let verdict : c .compare-verdict .result ≡ verdictOf (file .now) (c .args .is-cut) stop = verdict-is file ws copy (c .args .is-cut) stop _ front same (c .compare-verdict .ensures .answer) in
     record {
-      found = ws;
-      stop = stop;
-      front = front;
-      text = text-is file ws copy (c .args .is-cut) stop _ (c .len-count .result) (c .len-bytes .result) _ _ _ front same verdict (omega (arith, c .len-count .ensures, c .as-slice .ensures .len, ap length (c .as-slice .ensures .value))) (omega (arith, c .len-bytes .ensures, c .as-slice-2 .ensures .len)) (c .in-Continue-text .ensures tt ∙ ap (entriesText 1) (c .as-slice-3 .ensures .value)) (c .in-Continue-add-stop .ensures tt) (c .in-Continue-add-line .ensures tt);
-      verdict = verdict;
+      answer = record {
+        found = ws;
+        stop = stop;
+        front = front;
+        text = text-is file ws copy (c .args .is-cut) stop _ (c .len-count .result) (c .len-bytes .result) _ _ _ front same verdict (omega (arith, c .len-count .ensures, c .as-slice .ensures .len, ap length (c .as-slice .ensures .value))) (omega (arith, c .len-bytes .ensures, c .as-slice-2 .ensures .len)) (c .in-Continue-text .ensures tt .text ∙ ap (entriesText 1) (c .as-slice-3 .ensures .value)) (c .in-Continue-add-stop .ensures tt .text) (c .in-Continue-add-line .ensures tt .text);
+        verdict = verdict;
+      };
     }

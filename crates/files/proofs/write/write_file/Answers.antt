@@ -11,10 +11,10 @@ use Rattle.files.proofs.write.write_file.Needs as need
 pub returns-in-Break-append-record : need.returns-in-Break-append-record
 returns-in-Break-append-record c =
     let p = err-from-errBy (c .from-residual .result) (c .from-residual .ensures .1) in
-    rw (p .1, p .2) (unjoined (c .args .records .now) (c .loop-placed .placed-index) _ _ _ _ (c .loop-placed-test .taken) (c .in-Break-append-record .ensures tt))
+    rw (p .1, p .2) (record { answer = unjoined (c .args .records .now) (c .loop-placed .placed-index) _ _ _ _ (c .loop-placed-test .taken) (c .in-Break-append-record .ensures tt .answer) })
 
 pub loop-placed-again : need.loop-placed-again
-loop-placed-again c = c .in-Continue-append-record .ensures tt .1 ∙ joined-record (c .args .records .now) (c .loop-placed .placed-index) _ (c .loop-placed .inv) (c .loop-placed-test .taken)
+loop-placed-again c = c .in-Continue-append-record .ensures tt .answer .1 ∙ joined-record (c .args .records .now) (c .loop-placed .placed-index) _ (c .loop-placed .inv) (c .loop-placed-test .taken)
 
 pub returns : need.returns
-returns c = c .loop-placed .inv ∙ ap (λ ws. joined encode (said ws)) (take-all (c .loop-placed .placed-index) (c .args .records .now) (c .loop-placed-test .left))
+returns c = record { answer = c .loop-placed .inv ∙ ap (λ ws. joined encode (said ws)) (take-all (c .loop-placed .placed-index) (c .args .records .now) (c .loop-placed-test .left)) }

@@ -11,4 +11,4 @@ returns g c plain ok =
     let n = c .args .self .now .0 in
     let high : n / 16 < 16 = omega arith in
     let low : n % 16 < 16 = omega arith in
-    put-is _ _ _ _ _ (λ i. encode-digit (n / 16) _ high (c .digit-high .ensures) i ++ encode-digit (n % 16) _ low (c .digit-low .ensures) i) (c .write .ensures .shows plain ok)
+    put-is _ _ _ _ _ (λ i. encode-digit (n / 16) _ high (c .digit-high .ensures .value) i ++ encode-digit (n % 16) _ low (c .digit-low .ensures .value) i) (c .write .ensures .shows plain ok)

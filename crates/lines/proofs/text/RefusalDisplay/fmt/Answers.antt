@@ -8,4 +8,4 @@ use Rattle.lines.proofs.text.RefusalDisplay.fmt.Needs as need
 pub returns : need.returns
 returns g c plain ok =
     let r = c .args .self .now in
-    put-is _ _ _ _ _ (λ i. placeText (r .number) (c .place-place .ensures i) (codes "refused " ++ (decimal (c .number-refusal .ensures i) ++ (codes ", " ++ faultWords (r .fault))))) (c .write .ensures .shows plain ok)
+    put-is _ _ _ _ _ (λ i. placeText (r .number) (c .place-place .ensures .value i) (codes "refused " ++ (decimal (c .number-refusal .ensures .value i) ++ (codes ", " ++ faultWords (r .fault))))) (c .write .ensures .shows plain ok)
