@@ -100,6 +100,7 @@ fn a_listing_says_what_took_place(rt: LibcRuntime) -> Result<(), Fail> {
             == "1 at 0: B show\n2 at 1: L reprioritise sender=1 receipt=2 priority=10\n3 at 8: refused 15, no kind of record has this letter\nwrote back records=2 bytes=8: not the same file, which has 9 bytes\n",
     )?;
     check_eq(refused.verdict, Verdict::Front { of: 9 })?;
+    check(refused.copy.as_slice() == b"BL\x01\x00\x00\x00\x02\x0a")?;
     let cut = list(heap, b"CF\x00", true)?;
     check(
         cut.text.as_str()

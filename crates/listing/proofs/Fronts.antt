@@ -5,11 +5,12 @@ use mathlib.Core.List.{List, [], _∷_, _++_, append-assoc}
 use Prim.Native.Nat.{ℕ, _+_, _<_, _≤_}
 use native.Mathlib.Omega.{arith}
 use denote.Ref.{RefT}
-use lib.ListN.{length, drop, length-append, length-drop}
+use lib.ListN.{length, take, drop, length-append, length-drop}
 use Rattle.std.specs.Joined.{joined}
 use Rattle.std.specs.declared.option.Option.{Option}
 use Rattle.std.specs.declared.option.Option.the-variants.{Some, None}
 use Rattle.std.specs.shelf.Lists.{All}
+use Rattle.std.proofs.shelf.Lists.{take-at}
 use Rattle.layout.specs.declared.fault.ReadFault.{ReadFault}
 use Rattle.layout.specs.Records.{Sized, encode}
 use Rattle.files.specs.declared.placed.Placed.{Placed}
@@ -33,6 +34,12 @@ module _ (file : RefT (List ℕ)) (ws : List Placed) where
       let f = followed stop h in
       let end = readOf (file .now) stop in
       omega (arith, follow-within file 0 ws end (omega arith) f, simp (length-append, length-drop) at (ap length (follow-bytes file 0 ws end f)))
+
+  -- they are those that were read
+  pub copy-is : (copy : List ℕ) (stop : Option ReadFault) → Fronts file ws stop → copy ≡ joined encode (said ws) → copy ≡ take (readOf (file .now) stop) (file .now)
+  copy-is copy stop h e =
+      let end = readOf (file .now) stop in
+      e ∙ sym (ap (take end) (follow-bytes file 0 ws end (followed stop h)) ∙ take-at (joined encode (said ws)) (drop end (file .now)) end (length-back stop h))
 
   -- and they are the file just where all of it was read
   pub verdict-is : (copy : List ℕ) (cut : Bool) (stop : Option ReadFault) (v : Verdict) → Fronts file ws stop → copy ≡ joined encode (said ws) → Judged (file .now) copy cut v → v ≡ verdictOf (file .now) cut stop

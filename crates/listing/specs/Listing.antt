@@ -3,9 +3,10 @@ use mathlib.Core.Path.{_≡_}
 use mathlib.Core.Bool.{Bool, true, false}
 use mathlib.Core.List.{List, [], _∷_, _++_}
 use Prim.Native.Nat.{ℕ, _+_}
-use lib.ListN.{length}
+use lib.ListN.{length, take}
 use denote.Ref.{RefT}
 use Rattle.std.specs.Of.String.{string-bytes}
+use Rattle.std.specs.Of.Vec.{vec-items}
 use Rattle.std.specs.declared.option.Option.{Option}
 use Rattle.std.specs.declared.option.Option.the-variants.{Some, None}
 use Rattle.files.specs.declared.placed.Placed.{Placed}
@@ -48,10 +49,11 @@ abbrev pub listingText : List ℕ → Bool → List Placed → Option ReadFault 
 listingText s cut ws stop = entriesText 1 ws ++ (stopText (length ws + 1) stop ++ (endingText (record { records = length ws; bytes = readOf s stop; verdict = verdictOf s cut stop }) ++ (10 ∷ [])))
 
 -- the listing has the records that the reader finds in the file, each on its line, then where and why it stopped, if
--- it did; what was written back is all that was read, and is said to be the same file just where all of it was read
+-- it did; what was written back is the file up to there, and is said to be the same file just where it is all of it
 pub record Lists (file : RefT (List ℕ)) (cut : Bool) (l : Listing) : Type 0 where
   pub found : List Placed
   pub stop : Option ReadFault
   pub front : Fronts file found stop
+  pub copy : vec-items (l .copy) ≡ take (readOf (file .now) stop) (file .now)
   pub text : string-bytes (l .text) ≡ listingText (file .now) cut found stop
   pub verdict : l .verdict ≡ verdictOf (file .now) cut stop

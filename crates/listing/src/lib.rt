@@ -31,10 +31,11 @@ use std::alloc::AllocError;
 use std::alloc::Global;
 use std::fmt;
 
-/// The text of a file's listing, and how what was written back compares with the file.
+/// The text of a file's listing, what was written back, and how that compares with the file.
 #[derive(Drop)]
 pub struct Listing {
     pub text: String,
+    pub copy: Vec<u8>,
     pub verdict: Verdict,
 }
 
@@ -115,5 +116,9 @@ pub fn list(heap: Global, file: &[u8], is_cut: bool) -> Result<Listing, AllocErr
         verdict,
     };
     add_line(&mut text, ending)?;
-    Ok(Listing { text, verdict })
+    Ok(Listing {
+        text,
+        copy,
+        verdict,
+    })
 }

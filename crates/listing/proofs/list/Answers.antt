@@ -9,7 +9,7 @@ use Rattle.layout.specs.Records.{Sized, encode}
 use Rattle.files.specs.declared.placed.Placed.{Placed}
 use Rattle.files.specs.Files.{said}
 use Rattle.listing.specs.Listing.{entriesText, verdictOf}
-use Rattle.listing.proofs.Fronts.{sized, verdict-is, text-is}
+use Rattle.listing.proofs.Fronts.{sized, copy-is, verdict-is, text-is}
 use Rattle.listing.proofs.list.Needs as need
 
 pub written-back-requires : need.written-back-requires
@@ -31,6 +31,7 @@ returns c =
         found = ws;
         stop = stop;
         front = front;
+        copy = copy-is file ws (vec-items (c .in-Continue-copy .copy)) stop front (sym (c .as-slice-2 .ensures .value) ∙ same);
         text = text-is file ws copy (c .args .is-cut) stop _ (c .len-count .result) (c .len-bytes .result) _ _ _ front same verdict (omega (arith, c .len-count .ensures, c .as-slice .ensures .len, ap length (c .as-slice .ensures .value))) (omega (arith, c .len-bytes .ensures, c .as-slice-2 .ensures .len)) (c .in-Continue-text .ensures tt .text ∙ ap (entriesText 1) (c .as-slice-3 .ensures .value)) (c .in-Continue-add-stop .ensures tt .text) (c .in-Continue-add-line .ensures tt .text);
         verdict = verdict;
       };
