@@ -3,7 +3,6 @@ use mathlib.Core.List.{List, [], _∷_, _++_}
 use Prim.Native.Nat.{ℕ}
 use lib.Chars.{codes}
 use Rattle.std.specs.Written.{decimal}
-use Rattle.files.specs.declared.placed.Placed.{Placed}
 use Rattle.layout.specs.declared.fault.ReadFault.{ReadFault}
 use Rattle.layout.specs.declared.fault.ReadFault.the-variants.{UnknownLetter, CutBody}
 use Rattle.layout.specs.declared.record.Record.{Record}
@@ -31,8 +30,8 @@ fieldsText Close = codes "C close"
 abbrev pub placeText : ℕ → ℕ → List ℕ → List ℕ
 placeText number place text = decimal number ++ (codes " at " ++ (decimal place ++ (codes ": " ++ text)))
 
-abbrev pub entryText : ℕ → Placed → List ℕ
-entryText number w = placeText number (w .place) (fieldsText (w .«record»))
+abbrev pub entryText : ℕ → ℕ → Record → List ℕ
+entryText number place w = placeText number place (fieldsText w)
 
 -- a refusal in words
 abbrev pub faultWords : ReadFault → List ℕ

@@ -1,12 +1,13 @@
 //! What the lines of a listing say.
-use files::Placed;
 use layout::ReadFault;
+use layout::Record;
 
-/// A record, with its number in the file, from 1.
+/// A record, with its number in the file, from 1, and its place.
 #[derive(Clone, Copy)]
 pub struct Entry<'a> {
     pub number: usize,
-    pub placed: Placed<'a>,
+    pub place: usize,
+    pub record: Record<'a>,
 }
 
 /// A refusal, with the number of the record that could not be read.

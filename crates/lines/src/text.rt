@@ -7,7 +7,6 @@ use crate::line::Ending;
 use crate::line::Entry;
 use crate::line::Refusal;
 use crate::line::Verdict;
-use files::Placed;
 use layout::ReadFault;
 use layout::Record;
 use std::fmt;
@@ -76,12 +75,12 @@ impl fmt::Display for Fields<'_> as FieldsDisplay {
 }
 
 pub impl fmt::Display for Entry<'_> as EntryDisplay {
-    ghost shown = { λ e. Some (entryText (e .number) (e .placed)) };
+    ghost shown = { λ e. Some (entryText (e .number) (e .place) (e .«record»)) };
 
     fn fmt<W: fmt::Write>(&self, f: &mut fmt::Formatter<W>) -> fmt::Result {
         let number = self.number;
-        let place = self.placed.place;
-        let fields = Fields(self.placed.record);
+        let place = self.place;
+        let fields = Fields(self.record);
         write!(f, "{number} at {place}: {fields}")
     }
 }

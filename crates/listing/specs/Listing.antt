@@ -21,7 +21,7 @@ use Rattle.lines.specs.Lines.{entryText, refusalText, endingText}
 -- a line for each record, numbered on from a number
 abbrev pub entriesText : ℕ → List Placed → List ℕ
 entriesText n [] = []
-entriesText n (w ∷ ws) = (entryText n w ++ (10 ∷ [])) ++ entriesText (n + 1) ws
+entriesText n (w ∷ ws) = (entryText n (w .place) (w .«record») ++ (10 ∷ [])) ++ entriesText (n + 1) ws
 
 -- a line for the refusal, if there is one
 abbrev pub stopText : ℕ → Option ReadFault → List ℕ

@@ -56,8 +56,13 @@ fn entries_text(heap: Global, records: &[Placed<'_>]) -> Result<String, AllocErr
     let mut text = String::new(heap);
     for (i, placed) in records.iter().enumerate() {
         let number = i + 1;
-        let placed = *placed;
-        add_line(&mut text, Entry { number, placed })?;
+        let Placed { place, record } = *placed;
+        let entry = Entry {
+            number,
+            place,
+            record,
+        };
+        add_line(&mut text, entry)?;
     }
     Ok(text)
 }
