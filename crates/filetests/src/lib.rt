@@ -1,11 +1,3 @@
-//! What reader, writer and listing do on examples.
-#[cfg(test)]
-mod numbers;
-#[cfg(test)]
-mod reading;
-#[cfg(test)]
-mod samples;
+//! What whole files and their listing do on examples.
 #[cfg(test)]
 mod whole;
-#[cfg(test)]
-mod writing;

@@ -1,8 +1,4 @@
 //! Whole files: read, written, listed, and read from an input.
-use crate::samples::KINDS;
-use crate::samples::bytes_of;
-use crate::samples::is_sample;
-use crate::samples::sample;
 use files::FileFault;
 use files::append_record;
 use files::fault::FileFaultDebug;
@@ -17,37 +13,31 @@ use lines::Verdict;
 use lines::line::VerdictDebug;
 use lines::line::VerdictPartialEq;
 use listing::list;
-use records::Kind;
 use records::ReadFault;
+use records::Record;
 use records::WriteFault;
-use std::alloc::AllocError;
-use std::alloc::Global;
 use std::test::*;
 
-// A file with a record of each kind.
-fn all_kinds(heap: Global) -> Result<Vec<u8>, AllocError> {
-    let mut file = Vec::new(heap);
-    for kind in KINDS {
-        file.extend_from_slice(bytes_of(kind))?;
-    }
-    Ok(file)
-}
+// A record of each kind, in the order of the letters in `LETTERS`.
+const FILE: &[u8] =
+    b"O\x03\x01\x02\x03\x04\x05\x06\x07\x08\x11\x12\x13\x14\x15\x16\x17\x18\xf1\xf2\xf3\xf4\xf5\xf6\xf7\xf8F\x0f\x00\x00\x5a\xf3\x10\x7a\x40\x00D\xff\x00\x00\x00\x00\x00\x00\x00\x01S\x01\x02\x00\x00\x00\x00\x00\x00\x01\x2c\x32\x01INV-0001A\x04\x00\x00\xea\x60W\x05\x01\x02\x03\x04L\x06\x00\x00\x00\x07\x63RBC";
+
+const LETTERS: &[u8] = b"OFDSAWLRBC";
 
 #[test]
 fn a_file_of_all_kinds_comes_back(rt: LibcRuntime) -> Result<(), Fail> {
     let heap = rt.alloc();
-    let file = all_kinds(heap)?;
-    let records = read_file(heap, file.as_slice())?;
-    check_eq(records.len(), KINDS.len())?;
+    let records = read_file(heap, FILE)?;
+    check_eq(records.len(), LETTERS.len())?;
     let mut place = 0usize;
-    for placed in records.iter() {
+    for (placed, letter) in records.iter().zip(LETTERS.iter()) {
         check_eq(placed.place, place)?;
-        check(is_sample(&placed.record))?;
+        check_eq(placed.record.kind().letter(), *letter)?;
         place = place.saturating_add(placed.record.size());
     }
-    check_eq(place, file.len())?;
+    check_eq(place, FILE.len())?;
     let copy = write_file(heap, records.as_slice())?;
-    check(copy.as_slice() == file.as_slice())
+    check(copy.as_slice() == FILE)
 }
 
 #[test]
@@ -77,14 +67,26 @@ fn what_was_read_before_a_refusal_is_kept(rt: LibcRuntime) -> Result<(), Fail> {
 #[test]
 fn a_record_is_added_or_the_file_stays(rt: LibcRuntime) -> Result<(), Fail> {
     let mut file = Vec::new(rt.alloc());
-    append_record(&mut file, &sample(Kind::Run, b""))?;
-    let Err(fault) = append_record(&mut file, &sample(Kind::Submit, b"INV-001")) else {
+    append_record(&mut file, &Record::Run)?;
+    let bad = Record::Submit {
+        sender: 1,
+        receiver: 2,
+        amount: 3,
+        priority: 4,
+        flag: 0,
+        reference: b"INV-001",
+    };
+    let Err(fault) = append_record(&mut file, &bad) else {
         return Err(Fail::new("it was written"));
     };
     check_eq(fault, FileFault::Write(WriteFault::BadReference))?;
     check_eq(fault.number(), Some(16))?;
     check_eq(FileFault::Memory.number(), None)?;
-    append_record(&mut file, &sample(Kind::Withdraw, b""))?;
+    let withdraw = Record::Withdraw {
+        sender: 5,
+        receipt: 0x0102_0304,
+    };
+    append_record(&mut file, &withdraw)?;
     check(file.as_slice() == b"RW\x05\x01\x02\x03\x04")
 }
 
