@@ -67,9 +67,9 @@ impl fmt::Display for Fields<'_> as FieldsDisplay {
                 f,
                 "L reprioritise sender={sender} receipt={receipt} priority={priority}"
             ),
-            Record::Run => write!(f, "R run"),
-            Record::Show => write!(f, "B show"),
-            Record::Close => write!(f, "C close"),
+            Record::Run => f.write_str("R run"),
+            Record::Show => f.write_str("B show"),
+            Record::Close => f.write_str("C close"),
         }
     }
 }
@@ -94,8 +94,8 @@ impl fmt::Display for Words as WordsDisplay {
 
     fn fmt<W: fmt::Write>(&self, f: &mut fmt::Formatter<W>) -> fmt::Result {
         match &self.0 {
-            ReadFault::UnknownLetter { .. } => write!(f, "no kind of record has this letter"),
-            ReadFault::CutBody { .. } => write!(f, "the file ends inside this record"),
+            ReadFault::UnknownLetter { .. } => f.write_str("no kind of record has this letter"),
+            ReadFault::CutBody { .. } => f.write_str("the file ends inside this record"),
         }
     }
 }
@@ -117,11 +117,10 @@ pub impl fmt::Display for Verdict as VerdictDisplay {
 
     fn fmt<W: fmt::Write>(&self, f: &mut fmt::Formatter<W>) -> fmt::Result {
         match self {
-            Verdict::Same => write!(f, "the same file"),
+            Verdict::Same => f.write_str("the same file"),
             Verdict::Front { of } => write!(f, "not the same file, which has {of} bytes"),
-            Verdict::Longer => write!(
-                f,
-                "not the same file, which is longer than 65536 bytes and was read no further"
+            Verdict::Longer => f.write_str(
+                "not the same file, which is longer than 65536 bytes and was read no further",
             ),
         }
     }

@@ -25,10 +25,10 @@ pub returns-in-Reprioritise : need.returns-in-Reprioritise
 returns-in-Reprioritise g c plain ok = put-is _ _ _ _ _ (ap fieldsText (sym (c .in-Reprioritise .is))) (c .write-in-Reprioritise .ensures .shows plain ok)
 
 pub returns-in-Run : need.returns-in-Run
-returns-in-Run g c plain ok = put-is _ _ _ _ _ (ap fieldsText (sym (c .in-Run .is))) (c .write-in-Run .ensures .shows plain ok)
+returns-in-Run g c plain ok = put-is _ _ _ _ _ (ap fieldsText (sym (c .in-Run .is))) (c .write-str .ensures .prints plain ok)
 
 pub returns-in-Show : need.returns-in-Show
-returns-in-Show g c plain ok = put-is _ _ _ _ _ (ap fieldsText (sym (c .in-Show .is))) (c .write-in-Show .ensures .shows plain ok)
+returns-in-Show g c plain ok = put-is _ _ _ _ _ (ap fieldsText (sym (c .in-Show .is))) (c .write-str-in-Show .ensures .prints plain ok)
 
 pub returns-in-Close : need.returns-in-Close
-returns-in-Close g c plain ok = put-is _ _ _ _ _ (ap fieldsText (sym (c .in-Close .is))) (c .write-in-Close .ensures .shows plain ok)
+returns-in-Close g c plain ok = put-is _ _ _ _ _ (ap fieldsText (sym (c .in-Close .is))) (c .write-str-in-Close .ensures .prints plain ok)
