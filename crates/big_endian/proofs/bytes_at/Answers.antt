@@ -11,4 +11,4 @@ front n at s rest (Some y) e long h = (omega (arith, h.enough), h.same ∙ ap (t
 pub returns-in-Some : goal.returns-in-Some
 returns-in-Some g c =
     let told = c.in-Some.ensures.lookup.0 in
-    record { answer = front g.row.N c.args.at c.args.input.now c.in-Some.rest.now c.first-chunk.result told.2 told.3 c.first-chunk.ensures.cases }
+    record { answer = front g.row.N c.args.at c.args.input.now c.in-Some.rest.now c.first_chunk.result told.2 told.3 c.first_chunk.ensures.cases }
