@@ -32,7 +32,7 @@ found_weaker None P Q f h = tt
 found_weaker (Some x) P Q f h = f x h
 
 -- what is lent from the rest of a file is lent from the file
-pub lent_rest : (file : Bor (List ℕ)) (n m place : ℕ) (w : Record) {rest : List ℕ} → n + m ≡ place → rest ≡ drop n file.now → Lent (record { ref_ptr = address file n; ghost_name = file.ghost_name; now = rest }) m w → Lent file place w
+pub lent_rest : (file : Bor (List ℕ)) (n m place : ℕ) (w : Record) {rest : List ℕ} → n + m ≡ place → rest ≡ drop n file.now → Lent (record { ref_ptr = address file n; now = rest }) m w → Lent file place w
 lent_rest file n m place w sum is h =
     let shifted : m + (n + file.ref_ptr.1) ≡ place + file.ref_ptr.1 = omega arith in
     found_weaker (reference_of w) _ _ (λ x l. (

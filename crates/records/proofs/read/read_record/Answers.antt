@@ -11,8 +11,8 @@ use Rattle.records.proofs.read.read_record.Goals as goal
 pub returns-then-at-input : goal.returns-then-at-input
 returns-then-at-input c = record { answer = c.if-at-input.true; alone = none_past c.args.input.now c.args.at c.if-at-input.true }
 
-pub returns-in-default : goal.returns-in-default
-returns-in-default c =
+pub returns-in_default : goal.returns-in_default
+returns-in_default c =
     let refused : Refuses c.args.input.now c.args.at (UnknownLetter c.args.at) = search rules in
     record { answer = refused; alone = none_stands c.args.input.now c.args.at _ refused }
 
@@ -27,8 +27,8 @@ returns c =
     let at = c.args.at in
     let k = c.in-Some.kind in
     let rest = take_rest s (at + 1) in
-    let bytes = All-from_get_or (λ d. d < 256) s 0 (λ i h. omega (arith, c.type-inv.input i)) in
-    let size = c.body-len-size.ensures.value in
+    let bytes = All-from_get_or (λ d. d < 256) s 0 (λ i h. omega (arith, c.type_inv.input i)) in
+    let size = c.body_len-size.ensures.value in
     let told = c.decode.ensures in
     let here = stands s at k bytes c.if-at-input.false c.in-Some.ensures.answer (told.says ∙ ap (parsed k) rest) (ap (λ n. at + 1 + n) size) (omega (arith, c.if-rest-size.false, ap length rest, length-drop (at + 1) s)) in
     record {

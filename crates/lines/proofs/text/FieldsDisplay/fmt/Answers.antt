@@ -25,10 +25,10 @@ pub returns-in-Reprioritise-clause-writes : goal.returns-in-Reprioritise-clause-
 returns-in-Reprioritise-clause-writes g c plain ok = has_written_of_eq _ _ _ _ _ (ap fields_text (sym c.in-Reprioritise.is)) (c.write-in-Reprioritise.ensures.writes plain ok)
 
 pub returns-in-Run-clause-writes : goal.returns-in-Run-clause-writes
-returns-in-Run-clause-writes g c plain ok = has_written_of_eq _ _ _ _ _ (ap fields_text (sym c.in-Run.is)) (c.write-str.ensures.writes plain ok)
+returns-in-Run-clause-writes g c plain ok = has_written_of_eq _ _ _ _ _ (ap fields_text (sym c.in-Run.is)) (c.write_str.ensures.writes plain ok)
 
 pub returns-in-Show-clause-writes : goal.returns-in-Show-clause-writes
-returns-in-Show-clause-writes g c plain ok = has_written_of_eq _ _ _ _ _ (ap fields_text (sym c.in-Show.is)) (c.write-str-in-Show.ensures.writes plain ok)
+returns-in-Show-clause-writes g c plain ok = has_written_of_eq _ _ _ _ _ (ap fields_text (sym c.in-Show.is)) (c.write_str-in-Show.ensures.writes plain ok)
 
 pub returns-in-Close-clause-writes : goal.returns-in-Close-clause-writes
-returns-in-Close-clause-writes g c plain ok = has_written_of_eq _ _ _ _ _ (ap fields_text (sym c.in-Close.is)) (c.write-str-in-Close.ensures.writes plain ok)
+returns-in-Close-clause-writes g c plain ok = has_written_of_eq _ _ _ _ _ (ap fields_text (sym c.in-Close.is)) (c.write_str-in-Close.ensures.writes plain ok)
