@@ -5,7 +5,7 @@ use Rattle.files.proofs.read.read_front.Goals as goal
 pub loop-next-preserved : goal.loop-next-preserved
 loop-next-preserved c =
     let told = c.in-Ok.ensures in (
-      follow_next c.loop-next.reader.input _ (vec_items c.loop-next.records) _ (record { place = c.place-place.result; «record» = c.in-Some.«record» }) c.loop-next.reader.at _ _ c.loop-next.invariant.0 told.same c.in-ok-push.ensures.items c.place-place.ensures.value c.in-Some.is told.answer,
+      follow_next c.loop-next.reader.input _ (vec_items c.loop-next.records) _ (record { place = c.place-place.result; «record» = c.in-Some.«record» }) c.loop-next.reader.at _ _ c.loop-next.invariant.0 told.same c.in_ok-push-in-Some.ensures.items c.place-place.ensures.value c.in-Some.is told.answer,
       told.same ∙ c.loop-next.invariant.1,
     )
 

@@ -4,5 +4,5 @@ use Rattle.files.proofs.write.append_record.Goals as goal
 
 pub returns : goal.returns
 returns c =
-    let wrote = c.in-ok-size.ensures.answer in
-    record { answer = (wrote.sized, c.in-ok-extend_from_slice.ensures.items ∙ ap (λ l. vec_items c.args.file.now ++ l) (cut_space c.in-ok-size.size _ _ _ wrote.after c.write_record.auto.space wrote.room)) }
+    let wrote = c.in_ok-size.ensures.answer in
+    record { answer = (wrote.sized, c.in_ok-extend_from_slice.ensures.items ∙ ap (λ l. vec_items c.args.file.now ++ l) (cut_space c.in_ok-size.size _ _ _ wrote.after c.write_record.auto.space wrote.room)) }

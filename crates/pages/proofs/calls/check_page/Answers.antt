@@ -7,7 +7,7 @@ use Rattle.pages.proofs.calls.check_page.Goals as goal
 pub returns-in-err-check-record : goal.returns-in-err-check-record
 returns-in-err-check-record c =
     let page = c.args.page.now in
-    let p = err_from_is_err_and c.from-residual.result c.from-residual.ensures.1 in
+    let p = err_from_is_err_and c.from_residual.result c.from_residual.ensures.1 in
     let bad = c.in-err-check-record.ensures.answer in
     let sized : Sized (length page / 9) page = record { some = omega arith; few = omega arith; bytes = omega arith } in
     record { answer = rw (p.1, p.2) (refuses_record (length page / 9) c.loop-account.account page _ sized (omega arith) (λ i. omega (arith, c.type-inv.page i)) c.loop-account.invariant bad) }

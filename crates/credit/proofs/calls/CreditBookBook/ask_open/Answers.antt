@@ -6,7 +6,7 @@ use Rattle.credit.proofs.calls.CreditBookBook.ask_open.Goals as goal
 
 pub returns-in-err-own : goal.returns-in-err-own
 returns-in-err-own g c =
-    let p = err_from_is_err_and c.from-residual.result c.from-residual.ensures.1 in
+    let p = err_from_is_err_and c.from_residual.result c.from_residual.ensures.1 in
     let bad = c.in-err-own.ensures.answer in
     record { answer = rw (p.1, p.2) (bad.0, rw (length_credit (credit_of g.B.Book c.args.self.now)) bad.1) }
 

@@ -8,7 +8,7 @@ use Rattle.lines.proofs.hex.HexDisplay.fmt.Goals as goal
 pub loop-byte-preserved : goal.loop-byte-preserved
 loop-byte-preserved g c plain =
     let before = c.loop-byte.invariant plain in
-    has_written_of_eq _ _ _ _ _ (sym (hex_of_more c.args.self.now.0.now c.loop-byte.byte-index c.loop-byte-test.true)) (has_written_append _ _ _ _ _ _ before (c.in-ok-write.ensures.shows before.plain refl))
+    has_written_of_eq _ _ _ _ _ (sym (hex_of_more c.args.self.now.0.now c.loop-byte.byte-index c.loop-byte-test.true)) (has_written_append _ _ _ _ _ _ before (c.in_ok-write.ensures.writes before.plain refl))
 
 pub returns-clause-writes : goal.returns-clause-writes
 returns-clause-writes g c plain ok = has_written_of_eq _ _ _ _ _ (ap hex_of (take_all c.loop-byte.byte-index c.args.self.now.0.now c.loop-byte-test.false)) (c.loop-byte.invariant plain)

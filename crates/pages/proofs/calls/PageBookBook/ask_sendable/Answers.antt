@@ -5,7 +5,7 @@ use Rattle.pages.proofs.calls.PageBookBook.ask_sendable.Goals as goal
 
 pub returns-in-err-check-account : goal.returns-in-err-check-account
 returns-in-err-check-account c =
-    let p = err_from_is_err_and c.from-residual.result c.from-residual.ensures.1 in
+    let p = err_from_is_err_and c.from_residual.result c.from_residual.ensures.1 in
     let bad = c.in-err-check-account.ensures.answer in
     record { answer = rw (p.1, p.2) (bad.0, omega (arith, counted c.args.self.now)) }
 

@@ -9,9 +9,9 @@ use Rattle.pages.proofs.calls.PageBookBook.put.Goals as goal
 
 pub returns-in-err-check-move : goal.returns-in-err-check-move
 returns-in-err-check-move c =
-    let p = err_from_is_err_and c.from-residual.result c.from-residual.ensures.1 in
+    let p = err_from_is_err_and c.from_residual.result c.from_residual.ensures.1 in
     let unfit = unfit_in (counted c.args.self.now) c.in-err-check-move.ensures.answer in
-    record { answer = rw (p.1, p.2) (inl unfit, refl); count = refl; same = refused_all c.from-residual.result refl; standing = λ low. low; page = rw p.1 tt }
+    record { answer = rw (p.1, p.2) (inl unfit, refl); count = refl; same = refused_all c.from_residual.result refl; standing = λ low. low; page = rw p.1 tt }
 
 pub returns-then-sum-figure : goal.returns-then-sum-figure
 returns-then-sum-figure c =

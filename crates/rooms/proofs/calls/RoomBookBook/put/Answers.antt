@@ -9,12 +9,12 @@ use Rattle.rooms.proofs.calls.RoomBookBook.put.Goals as goal
 
 pub returns-in-err-check-move : goal.returns-in-err-check-move
 returns-in-err-check-move g c =
-    let p = err_from_is_err_and c.from-residual.result c.from-residual.ensures.1 in
+    let p = err_from_is_err_and c.from_residual.result c.from_residual.ensures.1 in
     let many = c.count.ensures.value ∙ sym (length_room (rooms_of g.B.Book c.args.self.now)) in
     record {
       answer = rw (p.1, p.2) (inl (unfit_in many c.in-err-check-move.ensures.answer), refl);
       count = refl;
-      same = refused_all c.from-residual.result refl;
+      same = refused_all c.from_residual.result refl;
       standing = λ st. st;
       rooms = rw p.1 refl;
     }

@@ -5,7 +5,7 @@ use Rattle.tables.proofs.table.TableBookBook.ask_open.Goals as goal
 
 pub returns-in-err-check-account : goal.returns-in-err-check-account
 returns-in-err-check-account c =
-    let p = err_from_is_err_and c.from-residual.result c.from-residual.ensures.1 in
+    let p = err_from_is_err_and c.from_residual.result c.from_residual.ensures.1 in
     let bad = c.in-err-check-account.ensures.answer in
     record { answer = rw (p.1, p.2) (bad.0, rw length_table (omega arith)) }
 
