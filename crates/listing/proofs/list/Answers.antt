@@ -7,8 +7,8 @@ use Rattle.listing.specs.Listing.{entries_text, verdict_of}
 use Rattle.listing.proofs.Fronts.{sized, copy_is, verdict_is, text_is}
 use Rattle.listing.proofs.list.Goals as goal
 
-pub written-back-requires : goal.written_back-requires
-written-back-requires c =
+pub written_back-requires : goal.written_back-requires
+written_back-requires c =
     let r = c.in_ok-records in
     subst (λ (ws : List Placed). All (λ w. Sized w.«record») ws) (sym c.as_slice.ensures.value) (sized c.args.file (vec_items r.field-0.records) _ r.ensures.answer)
 
