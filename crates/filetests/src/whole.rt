@@ -75,7 +75,7 @@ fn a_record_is_added_or_the_file_stays(rt: HostRuntime) -> Result<(), Fail> {
         receipt: 0x0102_0304,
     };
     append_record(&mut file, &withdraw)?;
-    assert!(rt; file.as_slice() == b"RW\x05\x01\x02\x03\x04");
+    assert!(rt; file.as_slice() == b"RW\x05\x01\x02\x03\x04".as_slice());
     Ok(())
 }
 
@@ -91,7 +91,7 @@ fn a_listing_says_what_took_place(rt: HostRuntime) -> Result<(), Fail> {
             == "1 at 0: B show\n2 at 1: L reprioritise sender=1 receipt=2 priority=10\n3 at 8: refused 15, no kind of record has this letter\nwrote back records=2 bytes=8: not the same file, which has 9 bytes\n"
     );
     assert_eq!(rt; refused.verdict, Verdict::Front { of: 9 });
-    assert!(rt; refused.copy.as_slice() == b"BL\x01\x00\x00\x00\x02\x0a");
+    assert!(rt; refused.copy.as_slice() == b"BL\x01\x00\x00\x00\x02\x0a".as_slice());
     let cut = list(heap, b"CF\x00", true)?;
     assert!(rt;
         cut.text.as_str()
