@@ -1,4 +1,6 @@
 //! Numbers of four and eight bytes, the greatest byte first: read out of a slice and written into one.
+#![tactic(auto)]
+
 ghost use Rattle.std.specs.Prelude.{◌≡◌, ◌+◌, ◌<◌, ◌≤◌, length, take, drop, MatchOption};
 ghost use Rattle.std.specs.Int.Digits.{AllBelowBase};
 ghost use Rattle.big_endian.specs.BigEndian.{bytes_of, Reads, Writes, ReadsBack, WritesBack};

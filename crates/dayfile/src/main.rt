@@ -1,4 +1,6 @@
 //! Lists the day file on standard input, writes it out again, and says whether that is the same file.
+#![tactic(auto)]
+
 use anyhow::anyhow;
 use files::read_input;
 use lines::Verdict;

@@ -1,4 +1,6 @@
 //! A whole day file: all its records at once, read and written.
+#![tactic(auto)]
+
 pub mod fault;
 pub mod input;
 pub mod laws;

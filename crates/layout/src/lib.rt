@@ -1,4 +1,6 @@
 //! The layout of a day file: its kinds of record, what each record holds, and its refusals.
+#![tactic(auto)]
+
 pub mod fault;
 pub mod kind;
 pub mod record;

@@ -1,4 +1,6 @@
 //! The lines of a listing: what they say, and their text.
+#![tactic(auto)]
+
 pub mod hex;
 pub mod line;
 pub mod text;

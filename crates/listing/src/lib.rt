@@ -1,4 +1,6 @@
 //! The listing of a whole day file: a line for each record, the refusal, and what was written back.
+#![tactic(auto)]
+
 ghost use Rattle.std.specs.Prelude.{◌≡◌, true, false, [], ◌∷◌, ◌++◌, length, IfSome, IfOk, Some, string_bytes, OnOk};
 ghost use Rattle.std.specs.List.{flat_map, AllByRecursion as All};
 ghost use Rattle.std.specs.Fmt.{option_append};

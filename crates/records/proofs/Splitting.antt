@@ -1,14 +1,11 @@
 -- No record's bytes begin another's, so that a file splits in one way.
-use Rattle.std.proofs.Common.{◌≡◌, ℕ, ◌+◌, ◌<◌, ◌≤◌, cond, eqb, List, [], ◌∷◌, ◌++◌, length, get_or, take, drop, sym, refl, ap, ◌∙◌, subst, append_assoc, arith, length-append, length-drop, take-append-drop, drop-cons}
-use Rattle.std.specs.List.{flat_map, AllByRecursion as All}
-use Rattle.std.proofs.lemmas.List.{take_at, drop_at, drop-drop}
+use Rattle.std.proofs.Common.{◌≡◌, ℕ, ◌+◌, ◌≤◌, cond, eqb, List, ◌++◌, length, get_or, drop, sym, refl, ap, ◌∙◌, subst, arith, drop-cons}
 use Rattle.layout.specs.declared.kind.Kind.{Kind}
 use Rattle.layout.specs.declared.kind.Kind.TheVariants.{Opening, Fund, Draw, Submit, Activate, Withdraw, Reprioritise, Run, Show, Close}
-use Rattle.layout.specs.declared.fault.ReadFault.{ReadFault}
 use Rattle.layout.specs.declared.fault.ReadFault.TheVariants.{UnknownLetter, CutBody}
 use Rattle.layout.specs.Layout.{letter_of, widths, body_of}
 use Rattle.layout.specs.Records.{Plain, packed, encode, Sound}
-use Rattle.records.specs.Reading.{Stands, Refuses}
+use Rattle.records.specs.Reading.{Stands}
 use Rattle.records.specs.Laws.{OneStands, NoneStands}
 use Rattle.records.proofs.Packing.{length-packed, packed_same}
 

@@ -1,5 +1,5 @@
 -- What the bytes at a place of a file say.
-use Rattle.std.proofs.Common.{◌≡◌, ℕ, suc, ◌+◌, ◌<◌, ◌≤◌, List, ◌∷◌, ◌++◌, length, get_or, take, drop, IfSome, Some, None, Option, sym, ap, ◌∙◌, subst, add-one, arith, length-drop, take-append-drop, drop-cons, Bor}
+use Rattle.std.proofs.Common.{◌≡◌, ℕ, ◌+◌, ◌<◌, ◌≤◌, List, ◌∷◌, ◌++◌, length, get_or, take, drop, IfSome, Some, None, Option, sym, ap, ◌∙◌, subst, add-one, arith, length-drop, take-append-drop, drop-cons, Bor}
 use Rattle.std.specs.Int.Digits.{AllBelowBase}
 use Rattle.std.proofs.ByRecursion.{All-drop}
 use Rattle.std.proofs.lemmas.List.{drop-drop}

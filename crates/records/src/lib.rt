@@ -1,4 +1,6 @@
 //! A record of a day file, read and written: one letter of kind, then a body of fixed length, numbers big-endian.
+#![tactic(auto)]
+
 pub mod laws;
 pub mod read;
 pub mod write;

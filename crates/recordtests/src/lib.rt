@@ -1,4 +1,6 @@
 //! What numbers, reader and writer do on examples.
+#![tactic(auto)]
+
 #[cfg(test)]
 mod numbers;
 #[cfg(test)]

@@ -1,5 +1,5 @@
-use Rattle.std.proofs.Common.{◌≡◌, ℕ, List, sym, ◌∙◌, subst}
-use Rattle.big_endian.specs.BigEndian.{bytes_of, Writes}
+use Rattle.std.proofs.Common.{ℕ, List, sym, ◌∙◌, subst}
+use Rattle.big_endian.specs.BigEndian.{Writes}
 use Rattle.big_endian.proofs.Numbers.{bytes4}
 use Rattle.big_endian.proofs.write_u32.Goals as goal
 

@@ -1,4 +1,4 @@
-use Rattle.std.proofs.Common.{◌≡◌, ◌/◌, ◌%◌, ◌<◌, ◌++◌, arith}
+use Rattle.std.proofs.Common.{◌/◌, ◌%◌, ◌<◌, ◌++◌, arith}
 use Rattle.std.proofs.Output.{has_written_of_eq}
 use Rattle.lines.proofs.Digits.{encode-digit}
 use Rattle.lines.proofs.hex.HexByteDisplay.fmt.Goals as goal
