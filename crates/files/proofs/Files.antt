@@ -1,6 +1,6 @@
 -- The records of a file, one after another.
 use Rattle.std.proofs.Common.{◌≡◌, ℕ, ◌+◌, ◌-◌, ◌<◌, ◌≤◌, List, [], ◌∷◌, ◌++◌, length, get_or, take, drop, Some, None, Ok, Err, Option, sym, refl, ap, ◌∙◌, subst, append_assoc, append-nil, arith, length-append, length-drop, Bor}
-use Rattle.std.specs.List.{flat_map, AllByRecursion as All}
+use Rattle.std.specs.List.{flat_map, AllByRecursion}
 use Rattle.std.proofs.ByRecursion.{All-get_or}
 use Rattle.std.proofs.lemmas.List.{drop_all, take_at, flat_map_more, map_more}
 use Rattle.layout.specs.declared.fault.ReadFault.{ReadFault}
@@ -30,11 +30,11 @@ module _ (file : Bor (List ℕ)) where
   follow_bytes at (w ∷ ws) end h =
       h.2.1.bytes ∙ ap (λ l. encode (plain w.«record») ++ l) (follow_bytes h.2.0 ws end h.2.2) ∙ sym (append_assoc (encode (plain w.«record»)) (flat_map encode (said ws)) (drop end file.now))
 
-  pub follow_sized : (at : ℕ) (ws : List Placed) (end : ℕ) → Follow file at ws end → All (λ w. Sized w.«record») ws
+  pub follow_sized : (at : ℕ) (ws : List Placed) (end : ℕ) → Follow file at ws end → AllByRecursion (λ w. Sized w.«record») ws
   follow_sized at [] end h = tt
   follow_sized at (w ∷ ws) end h = (lent_sized file at w.«record» h.2.0 h.2.1 h.1, follow_sized h.2.0 ws end h.2.2)
 
-  follow_sound : (at : ℕ) (ws : List Placed) (end : ℕ) → Follow file at ws end → All Sound (said ws)
+  follow_sound : (at : ℕ) (ws : List Placed) (end : ℕ) → Follow file at ws end → AllByRecursion Sound (said ws)
   follow_sound at [] end h = tt
   follow_sound at (w ∷ ws) end h = (h.2.1.sound, follow_sound h.2.0 ws end h.2.2)
 

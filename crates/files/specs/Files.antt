@@ -1,7 +1,7 @@
 -- The records of a whole file.
 use Rattle.std.specs.Prelude.{◌≡◌, ℕ, ◌+◌, List, [], ◌∷◌, ◌++◌, map, length, Some, None, Ok, Err, vec_items, Option, Result, Vec}
 use Rattle.std.specs.Borrow.{Bor}
-use Rattle.std.specs.List.{flat_map, AllByRecursion as All}
+use Rattle.std.specs.List.{flat_map, AllByRecursion}
 use Rattle.std.specs.declared.alloc.Global.{Global}
 use Rattle.layout.specs.declared.fault.ReadFault.{ReadFault}
 use Rattle.files.specs.declared.fault.FileFault.{FileFault}
@@ -25,7 +25,7 @@ Follow file at (w ∷ ws) end = (w.place ≡ at) × Lent file (at + 13) w.«reco
 -- the bytes of the records, one after another, are s
 pub record MakesUp (ps : List Plain) (s : List ℕ) : Type 0 where
   pub bytes : flat_map encode ps ≡ s
-  pub sound : All Sound ps
+  pub sound : AllByRecursion Sound ps
 
 -- the records of a file that is read to its end: they make it up, and no other list does
 pub record Whole (file : Bor (List ℕ)) (ws : List Placed) : Type 0 where
@@ -64,5 +64,5 @@ Appended w old new (Err Memory) = new ≡ old
 abbrev pub Joined : List Placed → Result (Vec ℕ Global) FileFault → Type 0
 Joined ws (Ok v) = vec_items v ≡ flat_map encode (said ws)
 Joined ws (Err (Read f)) = ⊥
-Joined ws (Err (Write f)) = (write_number f ≡ 16) × (All (λ w. Sized w.«record») ws → ⊥)
+Joined ws (Err (Write f)) = (write_number f ≡ 16) × (AllByRecursion (λ w. Sized w.«record») ws → ⊥)
 Joined ws (Err Memory) = Unit {0}

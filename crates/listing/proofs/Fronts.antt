@@ -1,6 +1,6 @@
 -- What was read of a file and written out again, beside the file.
 use Rattle.std.proofs.Common.{◌≡◌, ℕ, ◌+◌, Bool, true, false, List, [], ◌∷◌, ◌++◌, length, take, drop, Some, None, Option, sym, ap, ◌∙◌, append_assoc, arith, length-append, length-drop, Bor}
-use Rattle.std.specs.List.{flat_map, AllByRecursion as All}
+use Rattle.std.specs.List.{flat_map, AllByRecursion}
 use Rattle.std.proofs.lemmas.List.{take_at}
 use Rattle.layout.specs.declared.fault.ReadFault.{ReadFault}
 use Rattle.layout.specs.Records.{Sized, encode}
@@ -16,7 +16,7 @@ module _ (file : Bor (List ℕ)) (ws : List Placed) where
   followed None h = h.follow
   followed (Some f) h = h.follow
 
-  pub sized : (stop : Option ReadFault) → Fronts file ws stop → All (λ w. Sized w.«record») ws
+  pub sized : (stop : Option ReadFault) → Fronts file ws stop → AllByRecursion (λ w. Sized w.«record») ws
   sized stop h = follow_sized file 0 ws _ (followed stop h)
 
   -- as many bytes were written back as were read

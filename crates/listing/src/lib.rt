@@ -2,7 +2,7 @@
 #![tactic(auto)]
 
 ghost use Rattle.std.specs.Prelude.{◌≡◌, true, false, [], ◌∷◌, ◌++◌, length, IfSome, IfOk, Some, string_bytes, OnOk};
-ghost use Rattle.std.specs.List.{flat_map, AllByRecursion as All};
+ghost use Rattle.std.specs.List.{flat_map, AllByRecursion};
 ghost use Rattle.std.specs.Fmt.{option_append};
 ghost use Rattle.files.specs.Files.{said};
 ghost use Rattle.layout.specs.Records.{Sized, encode};
@@ -76,7 +76,7 @@ fn compare(file: &[u8], copy: &[u8], is_cut: bool) -> Verdict
 
 // The bytes of records that were read from a file, written out again.
 fn written_back(heap: Global, records: &[Placed<'_>]) -> Result<Vec<u8>, AllocError>
-    requires { All (λ w. Sized w.«record») records.now }
+    requires { AllByRecursion (λ w. Sized w.«record») records.now }
     ensures copy { IfOk result (λ v. v.items ≡ flat_map encode (said records.now)) }
 {
     match write_file(heap, records) {

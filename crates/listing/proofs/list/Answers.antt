@@ -1,5 +1,5 @@
 use Rattle.std.proofs.Common.{◌≡◌, List, length, vec_items, sym, ap, ◌∙◌, subst, arith}
-use Rattle.std.specs.List.{flat_map, AllByRecursion as All}
+use Rattle.std.specs.List.{flat_map, AllByRecursion}
 use Rattle.layout.specs.Records.{Sized, encode}
 use Rattle.files.specs.declared.placed.Placed.{Placed}
 use Rattle.files.specs.Files.{said}
@@ -10,7 +10,7 @@ use Rattle.listing.proofs.list.Goals as goal
 pub written_back-requires : goal.written_back-requires
 written_back-requires c =
     let r = c.in_ok-records in
-    subst (λ (ws : List Placed). All (λ w. Sized w.«record») ws) (sym c.as_slice.ensures.value) (sized c.args.file (vec_items r.field-0.records) _ r.ensures.answer)
+    subst (λ (ws : List Placed). AllByRecursion (λ w. Sized w.«record») ws) (sym c.as_slice.ensures.value) (sized c.args.file (vec_items r.field-0.records) _ r.ensures.answer)
 
 pub returns : goal.returns
 returns c =
