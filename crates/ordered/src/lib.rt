@@ -24,7 +24,7 @@ pub trait Ranked {
 
 /// How many of `row` stand ahead of `incoming`: the place of the first that it precedes, or the row's length.
 pub fn place_of<T: Ranked>(row: &[T], incoming: &T) -> usize
-    ensures value { result ≡ ahead precedes incoming.now row.now }
+    ensures value { result ≡ ahead T.precedes incoming.now row.now }
     ensures within { result ≤ length row.now }
 {
     for (i, other) in row.iter().enumerate() {
@@ -37,9 +37,9 @@ pub fn place_of<T: Ranked>(row: &[T], incoming: &T) -> usize
 
 /// Moves the last entry of `row` to its place among the others. An empty row stays empty.
 pub fn place_last<T: Ranked>(row: &mut [T])
-    ensures after { (xs : List T) (x : T) → row.old ≡ xs ++ x ∷ [] → row.new ≡ placed precedes x xs }
+    ensures after { (xs : List T) (x : T) → row.old ≡ xs ++ x ∷ [] → row.new ≡ placed T.precedes x xs }
     ensures empty { row.old ≡ [] → row.new ≡ [] }
-    ensures ordered { (xs : List T) (x : T) → row.old ≡ xs ++ x ∷ [] → Ordered precedes xs → Fresh key x xs → Ordered precedes row.new }
+    ensures ordered { (xs : List T) (x : T) → row.old ≡ xs ++ x ∷ [] → Ordered T.precedes xs → Fresh T.key x xs → Ordered T.precedes row.new }
 {
     if let Some((last, others)) = row.split_last() {
         let place = place_of(others, last);
@@ -60,8 +60,8 @@ pub fn send_last<T>(row: &mut [T], place: usize) -> bool
 
 /// Puts `entry` at its place, in memory that `row` has reserved. A full row is left as it is, and the entry handed back.
 pub fn insert<T: Ranked>(row: &mut Vec<T>, entry: T) -> Result<(), T>
-    ensures answer { Inserted precedes entry row.old result row.new }
-    ensures ordered { Ordered precedes row.old.items → Fresh key entry row.old.items → Ordered precedes row.new.items }
+    ensures answer { Inserted T.precedes entry row.old result row.new }
+    ensures ordered { Ordered T.precedes row.old.items → Fresh T.key entry row.old.items → Ordered T.precedes row.new.items }
 {
     if row.len() == row.capacity() {
         return Err(entry);
@@ -74,7 +74,7 @@ pub fn insert<T: Ranked>(row: &mut Vec<T>, entry: T) -> Result<(), T>
 /// Takes out the entry at `place`, and keeps the order of the others. Where there is no such place it answers `None`.
 pub fn remove<T: Ranked>(row: &mut Vec<T>, place: usize) -> Option<T>
     ensures answer { Removed place row.old result row.new }
-    ensures ordered { Ordered precedes row.old.items → Ordered precedes row.new.items }
+    ensures ordered { Ordered T.precedes row.old.items → Ordered T.precedes row.new.items }
 {
     if place >= row.len() {
         return None;

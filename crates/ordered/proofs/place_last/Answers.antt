@@ -12,9 +12,9 @@ returns-in-Some g c =
     let row = c.args.row.now in
     let others = c.in-Some.others.now in
     let last = c.in-Some.last.now in
-    let place = c.place-of-place.result in
+    let place = c.place_of-place.result in
     let split = c.in-Some.ensures.cases.0 in
-    let after = placed_last k.precedes others last row _ _ place split c.place-of-place.ensures.value (take_rest row place) c.rotate-right.ensures.after in
+    let after = placed_last k.precedes others last row _ _ place split c.place_of-place.ensures.value (take_rest row place) c.rotate-right.ensures.after in
     record {
       after = after;
       empty = λ none. absurd (omega (arith, ap length split ∙ length_push others last, ap length none));

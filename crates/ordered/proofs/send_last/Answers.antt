@@ -7,4 +7,4 @@ pub returns : goal.returns
 returns g c =
     let row = c.args.row.now in
     let place = c.args.place in
-    record { answer = (omega arith, turned_left row _ place (c.rotate-left.ensures.after ∙ ap (λ ws. drop 1 ws ++ take 1 ws) (take_rest row place))) }
+    record { answer = (omega arith, turned_left row _ place (c.rotate_left.ensures.after ∙ ap (λ ws. drop 1 ws ++ take 1 ws) (take_rest row place))) }
