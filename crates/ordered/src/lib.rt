@@ -1,4 +1,6 @@
 //! Rows kept in order, for every kind of entry whose order obeys three laws.
+#![tactic(auto)]
+
 ghost use Rattle.std.specs.Prelude.{◌≡◌, ℕ, ◌≤◌, Bool, true, false, not, List, [], ◌∷◌, ◌++◌, length, ◌≢◌};
 ghost use Rattle.ordered.specs.Order.{ahead, placed, Ordered, Fresh};
 ghost use Rattle.ordered.specs.Rows.{Sent, Inserted, Removed};
