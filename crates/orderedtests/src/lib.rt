@@ -1,4 +1,6 @@
 //! What rows in order do on examples.
+#![tactic(auto)]
+
 #[cfg(test)]
 mod moving;
 #[cfg(test)]
