@@ -1,9 +1,9 @@
 -- What a row of figures means, place by place.
-use Rattle.std.proofs.Common.{◌≡◌, ℕ, ◌+◌, ◌-◌, ◌^◌, ◌<◌, ◌≤◌, ◌≢◌, List, map, length, get_or, set, vec_items, vec_len, sym, refl, ap, ◌∙◌, subst, ⊎_elim, arith}
+use Rattle.std.proofs.Common.{◌≡◌, ℕ, ◌+◌, ◌-◌, ◌^◌, ◌<◌, ◌≤◌, ◌≢◌, List, length, get_or, set, vec_items, vec_len, sym, ap, ◌∙◌, subst, ⊎_elim, arith}
 use Rattle.std.proofs.lemmas.List.{length-map, get_or-map, map-set, get_or_read_under, get_or-set_same, get_or-set_other}
 use Rattle.std.proofs.lemmas.Bool.{cases_eq}
 use Rattle.tables.specs.declared.table.TableBook.{TableBook}
-use Rattle.book.specs.Figures.{Figures, figures, none, sendable_at, open_at, after_take, after_put}
+use Rattle.book.specs.Figures.{figures, none, sendable_at, open_at, after_take, after_put}
 use Rattle.tables.specs.Rows.{table_means, Low}
 
 pub length_table : (ns : List ℕ) → length (table_means ns) ≡ length ns

@@ -1,4 +1,6 @@
 //! The book over a row of figures.
+#![tactic(auto)]
+
 mod fault;
 mod table;
 

@@ -1,7 +1,8 @@
 //! The book over a row of figures.
 ghost use Rattle.std.specs.Prelude.{◌≡◌, ◌≤◌, vec_len};
 ghost use Rattle.tables.specs.Rows.{Low, table_means, RowChecked, Keeps};
-ghost use Rattle.std.proofs.Common.{rules, arith};
+ghost use Rattle.std.proofs.Common.{arith};
+ghost use Rattle.std.proofs.lemmas.List.{length-map};
 
 use crate::fault::RowFault;
 use book::{Book, BookFault, LARGEST_FIGURE, MOST_ACCOUNTS, Reason, check_account, check_move};
@@ -58,7 +59,7 @@ impl Book for TableBook {
 
     ghost standing = { λ b. Low b.row.items };
 
-    ghost few = { first_of (Prim.search rules, Prim.grind (arith, Self.row.coded.inj)) };
+    ghost few = { λ b. rw length-map (omega (arith, b.few, b.row.ok.0)) };
 
     fn count(&self) -> usize {
         self.figures().len()

@@ -5,20 +5,20 @@ use Rattle.book.proofs.Moves.{unfit_in, fits_in, refused_all}
 use Rattle.tables.proofs.Tables.{counted, low_set, stands_in, put_table}
 use Rattle.tables.proofs.table.TableBookBook.put.Goals as goal
 
-pub returns-in-err-check-move : goal.returns-in-err-check-move
-returns-in-err-check-move c =
+pub returns-in_err-check_move : goal.returns-in_err-check_move
+returns-in_err-check_move c =
     let p = err_from_is_err_and c.from_residual.result c.from_residual.ensures.1 in
-    let unfit = unfit_in (counted c.args.self.now _ c.len.ensures) c.in-err-check-move.ensures.answer in
+    let unfit = unfit_in (counted c.args.self.now _ c.len.ensures) c.in_err-check_move.ensures.answer in
     record { answer = rw (p.1, p.2) (inl unfit, refl); count = refl; same = refused_all c.from_residual.result refl; standing = λ low. low }
 
-pub overflow-sub-figure : goal.overflow-sub-figure
-overflow-sub-figure c =
-    let fit = c.in-ok-check-move.ensures.answer in
+pub overflow_sub-figure : goal.overflow_sub-figure
+overflow_sub-figure c =
+    let fit = c.in_ok-check_move.ensures.answer in
     (stands_in c.args.self.now c.args.account c.index-figure.result.now (omega arith) c.index-figure.ensures).most
 
 pub returns-then-sum-figure : goal.returns-then-sum-figure
 returns-then-sum-figure c =
-    let fit = c.in-ok-check-move.ensures.answer in
+    let fit = c.in_ok-check_move.ensures.answer in
     let r = stands_in c.args.self.now c.args.account c.index-figure.result.now (omega arith) c.index-figure.ensures in
     let fits = fits_in (counted c.args.self.now _ c.len.ensures) fit in
     record {
@@ -35,7 +35,7 @@ returns c =
     let a = c.args.account in
     let s = c.args.sum in
     let x = c.index-figure.result.now in
-    let fit = c.in-ok-check-move.ensures.answer in
+    let fit = c.in_ok-check_move.ensures.answer in
     let r = stands_in b a x (omega arith) c.index-figure.ensures in
     let fits = fits_in (counted b _ c.len.ensures) fit in
     let after = put_table ns a x s r (omega arith) in
