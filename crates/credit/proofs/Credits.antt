@@ -2,7 +2,7 @@
 use Rattle.std.proofs.Common.{◌≡◌, ℕ, ◌+◌, ◌-◌, ◌<◌, ◌≤◌, min, ◌≢◌, List, length, get_or, set, sym, ap, ◌∙◌, subst, ⊎_elim, arith}
 use Rattle.std.proofs.lemmas.List.{get_or-set_same, get_or-set_other}
 use Rattle.std.proofs.lemmas.Bool.{cases_eq, cases_lt}
-use Rattle.book.specs.Figures.{Figures, figures, none, sendable_at, open_at, after_take, after_put}
+use Rattle.book.specs.Figures.{Figures, figures, sendable_at, open_at, after_take, after_put}
 use Rattle.book.proofs.Figures.{same, sendable_same, sendable_other}
 use Rattle.book.proofs.Layers.{length-layered, at_layered, set_layered}
 use Rattle.credit.specs.Credits.{Credit, limit_of, loan_of, credit_means, CreditRule, lend, repay}

@@ -5,6 +5,7 @@ ghost use Rattle.book.specs.Moves.{Answers, Taken, Put};
 ghost use Rattle.book.specs.Layers.{Capped, Leaves};
 ghost use Rattle.credit.specs.Credits.{credit_means, loan_of, lend, repay};
 ghost use Rattle.credit.specs.Books.{credit_of, Stands};
+ghost use Rattle.book.proofs.Layers.{length-layered};
 
 use crate::CreditBook;
 use book::{
@@ -45,7 +46,9 @@ impl<B: Book> CreditBook<B> {
 
 // Takes the sum, which the book can send; nothing for 0.
 fn take_some<B: Book>(book: &mut B, account: usize, sum: u64)
-    requires { (account < length (B.Book.means book.old)) × ((sum ≤ 10 ^ 16) × (sum ≤ sendable_at (B.Book.means book.old) account)) }
+    requires here { account < length (B.Book.means book.old) }
+    requires small { sum ≤ 10 ^ 16 }
+    requires covered { sum ≤ sendable_at (B.Book.means book.old) account }
     ensures after { B.Book.means book.new ≡ after_take (B.Book.means book.old) account sum }
     ensures standing { B.Book.standing book.old → B.Book.standing book.new }
 {
@@ -56,7 +59,9 @@ fn take_some<B: Book>(book: &mut B, account: usize, sum: u64)
 
 // Puts the sum, for which the book has room; nothing for 0.
 fn put_some<B: Book>(book: &mut B, account: usize, sum: u64)
-    requires { (account < length (B.Book.means book.old)) × ((sum ≤ 10 ^ 16) × (sum ≤ open_at (B.Book.means book.old) account)) }
+    requires here { account < length (B.Book.means book.old) }
+    requires small { sum ≤ 10 ^ 16 }
+    requires covered { sum ≤ open_at (B.Book.means book.old) account }
     ensures after { B.Book.means book.new ≡ after_put (B.Book.means book.old) account sum }
     ensures standing { B.Book.standing book.old → B.Book.standing book.new }
 {
@@ -69,6 +74,8 @@ impl<B: Book> Book for CreditBook<B> {
     ghost means = { λ b. credit_means (credit_of B.Book b) };
 
     ghost standing = { λ b. Stands B.Book b };
+
+    ghost few = { λ b. rw length-layered (B.few b.below) };
 
     fn count(&self) -> usize {
         self.below().count()

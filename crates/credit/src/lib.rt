@@ -1,4 +1,6 @@
 //! The book that lends, over any book.
+#![tactic(auto)]
+
 ghost use Rattle.std.specs.Prelude.{ℕ, ◌^◌, ◌≤◌, slice_index};
 
 use book::{Book, MOST_ACCOUNTS};

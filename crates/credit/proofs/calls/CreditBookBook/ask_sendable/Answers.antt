@@ -4,16 +4,16 @@ use Rattle.credit.specs.Books.{credit_of}
 use Rattle.credit.proofs.Credits.{length_credit, at}
 use Rattle.credit.proofs.calls.CreditBookBook.ask_sendable.Goals as goal
 
-pub returns-in-err-own : goal.returns-in-err-own
-returns-in-err-own g c =
+pub returns-in_err-own : goal.returns-in_err-own
+returns-in_err-own g c =
     let p = err_from_is_err_and c.from_residual.result c.from_residual.ensures.1 in
-    let bad = c.in-err-own.ensures.answer in
+    let bad = c.in_err-own.ensures.answer in
     record { answer = rw (p.1, p.2) (bad.0, rw (length_credit (credit_of g.B.Book c.args.self.now)) bad.1) }
 
 pub returns : goal.returns
 returns g c =
     let b = c.args.self.now in
-    let own = c.in-ok-own.ensures.answer in
+    let own = c.in_ok-own.ensures.answer in
     let r = at (credit_of g.B.Book b) c.args.account own.0 in
     let lent = b.lent c.args.account in
     record { answer = (r.within, omega arith) }
