@@ -1,9 +1,10 @@
 -- How a move goes through a room book.
-use Rattle.std.proofs.Common.{◌≡◌, ℕ, ◌+◌, ◌-◌, ◌^◌, ◌<◌, ◌≤◌, min, ◌≢◌, List, length, get_or, set, sym, ap, ◌∙◌, subst, ⊎_elim, arith}
+use Rattle.std.proofs.Common.{◌≡◌, ℕ, ◌-◌, ◌^◌, ◌<◌, ◌≤◌, min, ◌≢◌, List, length, get_or, set, sym, ap, ◌∙◌, subst, ⊎_elim, arith}
 use denote.Struct.Props.{props}
 use Rattle.std.proofs.lemmas.List.{get_or-set_same, get_or-set_other}
 use Rattle.std.proofs.lemmas.Bool.{cases_eq}
-use Rattle.book.specs.Figures.{Figures, figures, none, sendable_at, open_at, after_take, after_put}
+use Rattle.book.specs.declared.book.Book.{Ghosts}
+use Rattle.book.specs.Figures.{Figures, figures, sendable_at, open_at, after_take, after_put}
 use Rattle.book.proofs.Figures.{same}
 use Rattle.book.proofs.Layers.{length-layered, at_layered, set_layered}
 use Rattle.rooms.specs.declared.RoomBook.{RoomBook}
@@ -48,7 +49,7 @@ low_prop : (rooms : List ℕ) → IsProp (RoomRule rooms)
 low_prop rooms = hlevel props
 
 -- a book is the same where the book below is, and the rooms are
-pub same_book : {B : Type 0} (b : B) (y : RoomBook B) (p : RoomRule y.rooms) → b ≡ y.below → ◌≡◌ {A = RoomBook B} (record { below = b; rooms = y.rooms; low = p }) y
+pub same_book : {B : Type 0} {G : Ghosts B} (b : B) (y : RoomBook B G) (p : RoomRule y.rooms) → b ≡ y.below → ◌≡◌ {A = RoomBook B G} (record { below = b; rooms = y.rooms; low = p }) y
 same_book b y p e = λ i. record { below = e i; rooms = y.rooms; low = low_prop y.rooms p y.low i }
 
 -- the same rooms over the same meaning

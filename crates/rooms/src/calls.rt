@@ -4,6 +4,7 @@ ghost use Rattle.book.specs.Moves.{Taken, Put};
 ghost use Rattle.book.specs.Layers.{Capped, Leaves};
 ghost use Rattle.rooms.specs.Rooms.{room_means, spend, regain};
 ghost use Rattle.rooms.specs.Books.{rooms_of, Stands};
+ghost use Rattle.book.proofs.Layers.{length-layered};
 
 use crate::RoomBook;
 use book::{Book, BookFault, LARGEST_ANSWER, Reason, capped, check_move};
@@ -34,6 +35,8 @@ impl<B: Book> Book for RoomBook<B> {
     ghost means = { λ b. room_means (rooms_of B.Book b) };
 
     ghost standing = { λ b. Stands B.Book b };
+
+    ghost few = { λ b. rw length-layered (B.few b.below) };
 
     fn count(&self) -> usize {
         self.below().count()

@@ -1,4 +1,6 @@
 //! The book with a sending room for each account, over any book.
+#![tactic(auto)]
+
 ghost use Rattle.rooms.specs.Rooms.{RoomRule};
 
 use book::{Book, MOST_ACCOUNTS};

@@ -1,18 +1,17 @@
-use Rattle.std.proofs.Common.{◌≡◌, ◌+◌, ◌-◌, ◌<◌, length, get_or, set, sym, refl, ap, ◌∙◌, inl, inr, arith, length-set}
+use Rattle.std.proofs.Common.{◌-◌, ◌<◌, length, get_or, set, sym, refl, ap, ◌∙◌, inl, inr, arith, length-set}
 use Rattle.std.proofs.lemmas.Result.{err_from_is_err_and}
-use Rattle.book.specs.Moves.{Fits}
 use Rattle.book.proofs.Moves.{unfit_in, fits_in, refuses_in, refused_all}
-use Rattle.rooms.specs.Rooms.{room_means, spend}
+use Rattle.rooms.specs.Rooms.{room_means}
 use Rattle.rooms.specs.Books.{rooms_of}
 use Rattle.rooms.proofs.Spaces.{length_room, at, means_spend, low_set, same_book, held}
 use Rattle.rooms.proofs.calls.RoomBookBook.take.Goals as goal
 
-pub returns-in-err-check-move : goal.returns-in-err-check-move
-returns-in-err-check-move g c =
+pub returns-in_err-check_move : goal.returns-in_err-check_move
+returns-in_err-check_move g c =
     let p = err_from_is_err_and c.from_residual.result c.from_residual.ensures.1 in
     let many = c.count.ensures.value ∙ sym (length_room (rooms_of g.B.Book c.args.self.now)) in
     record {
-      answer = rw (p.1, p.2) (inl (unfit_in many c.in-err-check-move.ensures.answer), refl);
+      answer = rw (p.1, p.2) (inl (unfit_in many c.in_err-check_move.ensures.answer), refl);
       count = refl;
       same = refused_all c.from_residual.result refl;
       standing = λ st. st;
@@ -22,7 +21,7 @@ returns-in-err-check-move g c =
 pub returns-then-sum-room : goal.returns-then-sum-room
 returns-then-sum-room g c =
     let w = rooms_of g.B.Book c.args.self.now in
-    let fit = c.in-ok-check-move.ensures.answer in
+    let fit = c.in_ok-check_move.ensures.answer in
     let r = at w c.args.account (omega arith) in
     let many = c.count.ensures.value ∙ sym (length_room w) in
     record {
@@ -33,19 +32,19 @@ returns-then-sum-room g c =
       rooms = refl;
     }
 
-pub returns-in-err-take : goal.returns-in-err-take
-returns-in-err-take g c =
+pub returns-in_err-take : goal.returns-in_err-take
+returns-in_err-take g c =
     let b = c.args.self.now in
     let w = rooms_of g.B.Book b in
-    let fit = c.in-ok-check-move.ensures.answer in
+    let fit = c.in_ok-check_move.ensures.answer in
     let r = at w c.args.account (omega arith) in
-    let below = c.in-err-take.ensures in
-    let p = err_from_is_err_and c.from-residual-in-err-take.result c.from-residual-in-err-take.ensures.1 in
+    let below = c.in_err-take.ensures in
+    let p = err_from_is_err_and c.from_residual-in_err-take.result c.from_residual-in_err-take.ensures.1 in
     let left = held b.rooms below.answer.1 in
     record {
       answer = rw (p.1, p.2) (refuses_in (sym (length_room w)) (λ h. omega arith) below.answer.0, ap room_means left);
       count = ap length (ap room_means left);
-      same = refused_all c.from-residual-in-err-take.result (same_book c.take.new.self b _ below.same);
+      same = refused_all c.from_residual-in_err-take.result (same_book c.take.new.self b _ below.same);
       standing = λ st. record { below = below.standing st.below; own = st.own };
       rooms = rw p.1 left;
     }
@@ -56,9 +55,9 @@ returns g c =
     let w = rooms_of g.B.Book b in
     let a = c.args.account in
     let s = c.args.sum in
-    let fit = c.in-ok-check-move.ensures.answer in
+    let fit = c.in_ok-check_move.ensures.answer in
     let few = g.met.B.Book.few b.below in
-    let below = c.in-ok-take.ensures in
+    let below = c.in_ok-take.ensures in
     let r = at w a (omega arith) in
     let low = b.low a in
     let short : a < length b.rooms = omega arith in
