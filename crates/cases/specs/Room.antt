@@ -1,5 +1,5 @@
 -- Worked figures of a room book: a room of 40 over a table book of one account that holds 100.
-use Rattle.std.specs.Prelude.{◌≡◌, ℕ, List, [], ◌∷◌, Ok, Err, Result}
+use Rattle.std.specs.Prelude.{◌≡◌, ℕ, [], ◌∷◌, Ok, Err, Result}
 use Rattle.book.specs.declared.fault.BookFault.{BookFault}
 use Rattle.book.specs.Faults.{Names}
 use Rattle.book.specs.Figures.{sendable_at}

@@ -1,4 +1,6 @@
 //! What the rules of the books come to: worked figures, and that each call has one outcome.
+#![tactic(auto)]
+
 ghost use Rattle.cases.specs.Sure.{MovesHaveOneOutcome};
 ghost use Rattle.cases.specs.Worked.{WorkedFigures};
 
