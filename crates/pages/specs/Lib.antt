@@ -1,4 +1,4 @@
 pub mod Faults
 pub mod Pages
 pub mod Books
-pub mod PagesLemmas
+pub mod Lengths

@@ -4,12 +4,12 @@ ghost use Rattle.book.specs.Moves.{Taken, Put};
 ghost use Rattle.tables.specs.Rows.{Low};
 ghost use Rattle.pages.specs.Pages.{figure_at, PageChecked, RecordChecked};
 ghost use Rattle.pages.specs.Books.{bytes_in, figures_in, means_of, Keeps, Written};
-ghost use Rattle.std.proofs.Common.{arith};
-ghost use Rattle.pages.specs.PagesLemmas.{counted};
+ghost use Rattle.pages.specs.Lengths.{length_figures};
+ghost use Rattle.std.proofs.lemmas.List.{length-map};
 
 use crate::{PageBook, PageFault};
-use book::{Book, BookFault, LARGEST_FIGURE, MOST_ACCOUNTS, Reason, check_account, check_move};
 use big_endian::{read_u64, write_u64};
+use book::{Book, BookFault, LARGEST_FIGURE, MOST_ACCOUNTS, Reason, check_account, check_move};
 
 /// What each record of a page begins with.
 const LETTER: u8 = b'P';
@@ -98,7 +98,7 @@ impl Book for PageBook {
 
     ghost standing = { λ b. Low (figures_in b) };
 
-    ghost few = { λ b. omega (arith, counted b, b.formed.0) };
+    ghost few = { λ b. rw length-map (rw length_figures b.formed.0) };
 
     fn count(&self) -> usize {
         self.accounts

@@ -1,4 +1,6 @@
 //! The book over a page of bytes.
+#![tactic(auto)]
+
 ghost use Rattle.pages.specs.Pages.{Formed};
 
 mod calls;

@@ -1,11 +1,11 @@
 use Rattle.std.proofs.Common.{◌≡◌, ℕ, List, vec_items, sym, refl, subst}
 use Rattle.pages.specs.Pages.{Formed, GoodPage, PageChecked}
-use Rattle.pages.specs.PagesLemmas.{kept}
+use Rattle.pages.proofs.Pages.{kept}
 use Rattle.pages.proofs.PageBook.new.Goals as goal
 
 pub returns : goal.returns
 returns c =
     let p = vec_items c.args.page in
-    let checked = subst (λ (s : List ℕ). PageChecked s c.check-page.result) c.as-slice.ensures.value c.check-page.ensures.answer in
-    let told = subst (λ (n : ℕ). ((k : ℕ) → GoodPage k p → n ≡ k) × (((k : ℕ) → GoodPage k p → ⊥) → n ≡ 0) × Formed n p) (sym c.unwrap-or-accounts.ensures) (kept p c.check-page.result checked) in
+    let checked = subst (λ (s : List ℕ). PageChecked s c.check_page.result) c.as_slice.ensures.value c.check_page.ensures.answer in
+    let told = subst (λ (n : ℕ). ((k : ℕ) → GoodPage k p → n ≡ k) × (((k : ℕ) → GoodPage k p → ⊥) → n ≡ 0) × Formed n p) (sym c.unwrap_or-accounts.ensures) (kept p c.check_page.result checked) in
     record { page = record { bytes = refl; good = told.0; bad = told.1 }; standing = told.2.2 }

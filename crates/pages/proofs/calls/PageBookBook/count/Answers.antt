@@ -1,5 +1,5 @@
 use Rattle.std.proofs.Common.{arith}
-use Rattle.pages.specs.PagesLemmas.{counted}
+use Rattle.pages.proofs.Pages.{counted}
 use Rattle.pages.proofs.calls.PageBookBook.count.Goals as goal
 
 pub returns : goal.returns

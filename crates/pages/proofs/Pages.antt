@@ -16,11 +16,8 @@ use Rattle.pages.specs.declared.fault.PageFault.{PageFault}
 use Rattle.pages.specs.declared.PageBook.{PageBook}
 use Rattle.pages.specs.Faults.{page_number}
 use Rattle.pages.specs.Pages.{page_of, figures_of, letter_at, figure_at, Formed, Sized, GoodPage, RecordChecked, PageChecked, PageRefuses, RefusesLength, RefusesLetter, RefusesFigure}
+use Rattle.pages.specs.Lengths.{length_figures}
 use Rattle.pages.specs.Books.{bytes_in, figures_in, means_of}
-
-pub length_figures : (k : ℕ) (p : List ℕ) → length (figures_of k p) ≡ k
-length_figures zero p = refl
-length_figures (suc k) p = ap suc (length_figures k (drop 9 p))
 
 pub length_page : (ns : List ℕ) → length (page_of ns) ≡ 9 * length ns
 length_page [] = refl
@@ -82,8 +79,8 @@ letters_page (n ∷ ns) rest (suc a) h =
     let e : 9 * suc a ≡ length pre + 9 * a = omega (arith, length-bytes_of 8 n) in
     (λ i. slice_index (append_assoc pre (page_of ns) rest i) (e i)) ∙ get_or-append-add pre (page_of ns ++ rest) (9 * a) 0 ∙ letters_page ns rest a (omega arith)
 
-letter_at_lem : (k a : ℕ) (p : List ℕ) → Formed k p → a < k → letter_at p a ≡ 80
-letter_at_lem k a p f h = ap (λ s. letter_at s a) (whole k p f) ∙ letters_page (figures_of k p) (drop (9 * k) p) a (omega (arith, length_figures k p))
+letter_stands : (k a : ℕ) (p : List ℕ) → Formed k p → a < k → letter_at p a ≡ 80
+letter_stands k a p f h = ap (λ s. letter_at s a) (whole k p f) ∙ letters_page (figures_of k p) (drop (9 * k) p) a (omega (arith, length_figures k p))
 
 -- the page after a write of the figure x
 module _ (k a x : ℕ) (p q : List ℕ) (f : Formed k p) (h : a < k) (le : x ≤ 10 ^ 16) (e : q ≡ over (bytes_of 8 x) (9 * a + 1) p) where
@@ -140,7 +137,7 @@ not_both p f k bad g =
     ⊎_elim
     (λ (r : RefusesLength p f). r.unfit k g.sized)
     (⊎_elim
-    (λ (r : (n : ℕ) × (a : ℕ) × RefusesLetter p f n a). r.2.other (letter_at_lem k r.1 p g.formed (omega (arith, r.2.here, r.2.sized.bytes, g.sized.bytes))))
+    (λ (r : (n : ℕ) × (a : ℕ) × RefusesLetter p f n a). r.2.other (letter_stands k r.1 p g.formed (omega (arith, r.2.here, r.2.sized.bytes, g.sized.bytes))))
     (λ (r : (n : ℕ) × (a : ℕ) × RefusesFigure p f n a).
     let h : r.1 < k = omega (arith, r.2.here, r.2.sized.bytes, g.sized.bytes) in
     omega (arith, r.2.large, g.formed.2 r.1, figures_at k r.1 p h))) bad
