@@ -1,4 +1,6 @@
 //! One settlement evening by hand, over a table book, a credit book and a room book.
+#![tactic(auto)]
+
 mod answers;
 mod steps;
 
