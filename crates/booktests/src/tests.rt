@@ -26,7 +26,7 @@ fn a_take_goes_through_room_and_credit_to_the_page(rt: HostRuntime) -> Result<()
     );
     let mut after = PAGE;
     after[8] = 1;
-    assert_eq!(rt; book.below().below().page(), &after);
+    assert_eq!(rt; book.below().below().page(), after.as_slice());
     Ok(())
 }
 
