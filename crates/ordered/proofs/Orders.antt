@@ -1,6 +1,6 @@
 -- A row in order stays so when an entry goes out, and when one comes to its place.
 use Rattle.std.proofs.Common.{◌≡◌, ℕ, zero, suc, Bool, true, false, cond, not, List, [], ◌∷◌, take, drop, Some, None, vec_items, Option, Vec, sym, refl, ◌∙◌, subst, arith}
-use Rattle.std.specs.List.{remove, AllByRecursion as All}
+use Rattle.std.specs.List.{remove, AllByRecursion}
 use Rattle.std.proofs.ByRecursion.{All-append, All-drop, All-from_get_or, All-get_or, All-take, All-weaker}
 use Rattle.std.proofs.lemmas.Bool.{not-false}
 use Rattle.ordered.specs.Order.{placed, Ordered, Fresh}
@@ -12,13 +12,13 @@ module _ {X : Type 0} (p : X → X → Bool) where
   Before x y = p x y ≡ true
 
   -- a row in order, by its first entry and the rest
-  ordered_cons : (x : X) (xs : List X) → All (Before x) xs → Ordered p xs → Ordered p (x ∷ xs)
+  ordered_cons : (x : X) (xs : List X) → AllByRecursion (Before x) xs → Ordered p xs → Ordered p (x ∷ xs)
   ordered_cons x xs a o (zero, zero) d h = absurd (omega arith)
   ordered_cons x xs a o (zero, suc j) d h = All-get_or (Before x) xs j d (omega arith) a
   ordered_cons x xs a o (suc i, zero) d h = absurd (omega arith)
   ordered_cons x xs a o (suc i, suc j) d h = o (i, j) d (omega arith, omega arith)
 
-  ordered_first : (x : X) (xs : List X) → Ordered p (x ∷ xs) → All (Before x) xs
+  ordered_first : (x : X) (xs : List X) → Ordered p (x ∷ xs) → AllByRecursion (Before x) xs
   ordered_first x xs o = All-from_get_or (Before x) xs x (λ i l. o (0, suc i) x (omega arith, omega arith))
 
   ordered_rest : (x : X) (xs : List X) → Ordered p (x ∷ xs) → Ordered p xs
@@ -32,10 +32,10 @@ module _ {X : Type 0} (p : X → X → Bool) where
       let first = ordered_first x xs o in
       ordered_cons x (remove xs i) (All-append (Before x) (take i xs) (drop (suc i) xs) (All-take (Before x) i xs first) (All-drop (Before x) (suc i) xs first)) (ordered_removed xs i (ordered_rest x xs o))
 
-  all_placed : (P : X → Type 0) (x : X) (xs : List X) → P x → All P xs → All P (placed p x xs)
+  all_placed : (P : X → Type 0) (x : X) (xs : List X) → P x → AllByRecursion P xs → AllByRecursion P (placed p x xs)
   all_placed P x [] h a = (h, tt)
   all_placed P x (y ∷ ys) h a =
-      elim (p x y) as (λ b. All P (cond b (x ∷ y ∷ ys) (y ∷ placed p x ys)))
+      elim (p x y) as (λ b. AllByRecursion P (cond b (x ∷ y ∷ ys) (y ∷ placed p x ys)))
       [ true ↦ (h, a) | false ↦ (a.0, all_placed P x ys h a.1) ]
 
   pub ordered_placed : {K : Type 0} (key : X → K) →

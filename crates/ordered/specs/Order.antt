@@ -1,6 +1,6 @@
 -- Where an entry stands in a row, and when a row is in order; p says which of two entries precedes the other.
 use Rattle.std.specs.Prelude.{◌≡◌, ℕ, suc, ◌<◌, Bool, true, cond, List, [], ◌∷◌, length, ◌≢◌, slice_index_or}
-use Rattle.std.specs.List.{AllByRecursion as All}
+use Rattle.std.specs.List.{AllByRecursion}
 
 -- how many stand ahead of x: all up to the first that x precedes
 abbrev pub ahead : {X : Type 0} → (X → X → Bool) → X → List X → ℕ
@@ -18,4 +18,4 @@ Ordered {X} p xs = (at : ℕ × ℕ) (d : X) → (at.0 < at.1) × (at.1 < length
 
 -- no entry of the row has x's key
 abbrev pub Fresh : {X K : Type 0} → (X → K) → X → List X → Type 0
-Fresh key x xs = All (λ y. key x ≢ key y) xs
+Fresh key x xs = AllByRecursion (λ y. key x ≢ key y) xs
