@@ -1,7 +1,7 @@
 -- What a write of one account's figures changes, and what it leaves.
-use Rattle.std.proofs.Common.{◌≡◌, ℕ, ◌+◌, ◌-◌, ◌<◌, ◌≢◌, List, length, get_or, set, sym, ap, ◌∙◌, arith}
+use Rattle.std.proofs.Common.{◌≡◌, ℕ, ◌<◌, ◌≢◌, List, length, set, sym, ap, ◌∙◌, arith}
 use Rattle.std.proofs.lemmas.List.{set-get_or, get_or-set_same, get_or-set_other}
-use Rattle.book.specs.Figures.{Figures, figures, none, sendable_at, open_at, after_take, after_put}
+use Rattle.book.specs.Figures.{Figures, figures, none, sendable_at, after_take, after_put}
 
 pub same : {x x' y y' : ℕ} → x ≡ x' → y ≡ y' → figures x y ≡ figures x' y'
 same p q = cc

@@ -1,4 +1,6 @@
 //! What a book of accounts is: for each account, what may still go out of it and what may still come in.
+#![tactic(auto)]
+
 mod book;
 mod checks;
 mod fault;

@@ -1,4 +1,4 @@
-use Rattle.std.proofs.Common.{◌<◌, ◌≤◌, length, take, ⊎_elim, arith, length-take}
+use Rattle.std.proofs.Common.{◌<◌, ◌≤◌, take, ⊎_elim, arith, length-take}
 use Rattle.std.proofs.lemmas.List.{get_or_past, get_or-take}
 use Rattle.std.proofs.lemmas.Bool.{cases_lt}
 use Rattle.book.proofs.layer.capped.Goals as goal
