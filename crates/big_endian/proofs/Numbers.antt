@@ -1,10 +1,9 @@
 -- Numbers and their bytes give each other back, at every width.
-use Rattle.std.proofs.Common.{◌≡◌, ℕ, zero, suc, ◌+◌, ◌*◌, ◌/◌, ◌%◌, ◌^◌, ◌<◌, ◌≤◌, List, [], ◌∷◌, length, get_or, take, drop, sym, refl, ap, ◌∙◌, mod-eq_of_lt, mul_assoc, add-mul, zero-add, div-one, arith, length-drop, length-take-le, drop-cons}
+use Rattle.std.proofs.Common.{◌≡◌, ℕ, zero, suc, ◌+◌, ◌*◌, ◌/◌, ◌%◌, ◌^◌, ◌<◌, List, [], ◌∷◌, length, refl, ap, ◌∙◌, mod-eq_of_lt, mul_assoc, add-mul, zero-add, div-one, arith}
 use native.Mathlib.Nat.{pow-zero, pow-succ'}
 use lib.Arith.{digits_div, digits_mod, mod-mul}
 use Rattle.std.specs.Int.Digits.{AllBelowBase, number_from_digits_after, number_from_digits}
 use Rattle.std.proofs.lemmas.Int.Digits.{number_lt}
-use Rattle.std.proofs.lemmas.List.{drop_all}
 use Rattle.big_endian.specs.BigEndian.{bytes_of, ReadsBack, WritesBack}
 
 pub length-bytes_of : (k n : ℕ) → length (bytes_of k n) ≡ k
@@ -54,18 +53,3 @@ bytes4 n = simp div-one
 pub bytes1 : (n : ℕ) → n < 256 → bytes_of 1 n ≡ n ∷ []
 unfolding bytes_of
 bytes1 n h = ap (λ m. m ∷ []) (simp div-one (mod-eq_of_lt h))
-
--- the k elements of s from a place on, one by one
-abbrev pub reads : ℕ → ℕ → List ℕ → List ℕ
-reads zero i s = []
-reads (suc k) i s = get_or s i 0 ∷ reads k (suc i) s
-
-pub drop_reads : (k i : ℕ) (s : List ℕ) → length s ≡ i + k → drop i s ≡ reads k i s
-drop_reads zero i s h = drop_all i s (omega arith)
-drop_reads (suc k) i s h = drop-cons s i 0 (omega arith) ∙ ap (λ l. get_or s i 0 ∷ l) (drop_reads k (suc i) s (omega arith))
-
--- the number of a part of k bytes, by its elements
-pub number_reads : (k at n : ℕ) (s part : List ℕ) → at + k ≤ length s → part ≡ take k (drop at s) → n ≡ number_from_digits 256 (reads k 0 part) → n ≡ number_from_digits 256 (take k (drop at s))
-number_reads k at n s part h e v =
-    let long : length part ≡ 0 + k = ap length e ∙ length-take-le k (drop at s) (omega (arith, length-drop at s)) ∙ sym (zero-add k) in
-    v ∙ ap (number_from_digits 256) (sym (drop_reads k 0 part long) ∙ e)

@@ -1,7 +1,0 @@
-use Rattle.std.proofs.Common.{ℕ, List, sym, ◌∙◌, subst}
-use Rattle.big_endian.specs.BigEndian.{Writes}
-use Rattle.big_endian.proofs.Numbers.{bytes4}
-use Rattle.big_endian.proofs.write_u32.Goals as goal
-
-pub returns : goal.returns
-returns c = record { answer = subst (λ (bs : List ℕ). Writes bs c.args.at c.args.space.now c.write_bytes.new.space c.write_bytes.result) (c.to_be_bytes.ensures ∙ sym (bytes4 c.args.word)) c.write_bytes.ensures.answer }
