@@ -1,5 +1,5 @@
 -- The refusals of reader and writer: their numbers and what they name.
-use Rattle.std.specs.Prelude.{ℕ}
+use Rattle.std.specs.Prelude.{ℕ, List, codes}
 use Rattle.layout.specs.declared.fault.ReadFault.{ReadFault}
 use Rattle.layout.specs.declared.fault.ReadFault.TheVariants.{UnknownLetter, CutBody}
 use Rattle.layout.specs.declared.fault.WriteFault.{WriteFault}
@@ -13,6 +13,11 @@ read_number (CutBody place) = 16
 abbrev pub place_of : ReadFault → ℕ
 place_of (UnknownLetter place) = place
 place_of (CutBody place) = place
+
+-- a refusal in words
+abbrev pub fault_words : ReadFault → List ℕ
+fault_words (UnknownLetter place) = codes "no kind of record has this letter"
+fault_words (CutBody place) = codes "the file ends inside this record"
 
 abbrev pub write_number : WriteFault → ℕ
 write_number BadReference = 16

@@ -1,3 +1,4 @@
 pub mod Layout
+pub mod Letters
 pub mod Records
 pub mod Faults

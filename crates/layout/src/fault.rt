@@ -1,6 +1,9 @@
 //! Why a record is not read or not written.
-ghost use Rattle.std.specs.Prelude.{◌≡◌};
-ghost use Rattle.layout.specs.Faults.{read_number, place_of, write_number};
+ghost use Rattle.std.specs.Prelude.{◌≡◌, Some};
+ghost use Rattle.layout.specs.Faults.{read_number, place_of, fault_words, write_number};
+
+use std::error::Error;
+use std::fmt;
 
 /// Why no record could be read, with the place of its letter in the file, from 0.
 #[derive(Clone, Copy, Debug, PartialEq, Eq)]
@@ -40,6 +43,20 @@ impl ReadFault {
         }
     }
 }
+
+/// The refusal in words.
+impl fmt::Display for ReadFault {
+    ghost output = { λ f. Some (fault_words f) };
+
+    fn fmt<W: fmt::Write>(&self, f: &mut fmt::Formatter<W>) -> fmt::Result {
+        f.write_str(match self {
+            ReadFault::UnknownLetter { .. } => "no kind of record has this letter",
+            ReadFault::CutBody { .. } => "the file ends inside this record",
+        })
+    }
+}
+
+impl Error for ReadFault {}
 
 impl WriteFault {
     /// The number of the refusal.

@@ -1,6 +1,7 @@
 //! The kinds of record.
-ghost use Rattle.std.specs.Prelude.{◌≡◌, MatchOption, ◌≢◌};
+ghost use Rattle.std.specs.Prelude.{◌≡◌};
 ghost use Rattle.layout.specs.Layout.{letter_of, body_of};
+ghost use Rattle.layout.specs.Letters.{Named};
 
 /// The ten kinds of record.
 #[derive(Clone, Copy, Debug, PartialEq, Eq)]
@@ -17,26 +18,34 @@ pub enum Kind {
     Close,
 }
 
-impl Kind {
-    /// The kind that a letter stands for.
-    pub fn of(letter: u8) -> Option<Kind>
-        ensures answer { MatchOption result ((k : Kind) → letter_of k ≢ letter) (λ k. letter_of k ≡ letter) }
-    {
+/// A letter that no kind of record has.
+#[derive(Clone, Copy, Debug, PartialEq, Eq)]
+pub struct NoKind(pub u8);
+
+/// The kind that a letter stands for.
+impl TryFrom<u8> for Kind {
+    type Error = NoKind;
+
+    ghost try_from_gives = { Named };
+
+    fn try_from(letter: u8) -> Result<Kind, NoKind> {
         match letter {
-            b'O' => Some(Kind::Opening),
-            b'F' => Some(Kind::Fund),
-            b'D' => Some(Kind::Draw),
-            b'S' => Some(Kind::Submit),
-            b'A' => Some(Kind::Activate),
-            b'W' => Some(Kind::Withdraw),
-            b'L' => Some(Kind::Reprioritise),
-            b'R' => Some(Kind::Run),
-            b'B' => Some(Kind::Show),
-            b'C' => Some(Kind::Close),
-            _ => None,
+            b'O' => Ok(Kind::Opening),
+            b'F' => Ok(Kind::Fund),
+            b'D' => Ok(Kind::Draw),
+            b'S' => Ok(Kind::Submit),
+            b'A' => Ok(Kind::Activate),
+            b'W' => Ok(Kind::Withdraw),
+            b'L' => Ok(Kind::Reprioritise),
+            b'R' => Ok(Kind::Run),
+            b'B' => Ok(Kind::Show),
+            b'C' => Ok(Kind::Close),
+            _ => Err(NoKind(letter)),
         }
     }
+}
 
+impl Kind {
     /// The letter that a record of this kind begins with.
     pub fn letter(self) -> u8
         ensures value { result ≡ letter_of self }

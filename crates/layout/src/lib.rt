@@ -6,5 +6,5 @@ pub mod kind;
 pub mod record;
 
 pub use fault::{ReadFault, WriteFault};
-pub use kind::Kind;
+pub use kind::{Kind, NoKind};
 pub use record::Record;

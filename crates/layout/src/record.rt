@@ -5,7 +5,7 @@ ghost use Rattle.layout.specs.Records.{plain, reference_of, size_of};
 use crate::kind::Kind;
 
 /// A record. A submit's reference is borrowed: the reader lends it from the file that it reads.
-#[derive(Clone, Copy, Debug)]
+#[derive(Clone, Copy, Debug, PartialEq, Eq)]
 pub enum Record<'a> {
     Opening {
         account: u8,
