@@ -6,23 +6,15 @@ ghost use Rattle.layout.specs.Records.{plain};
 ghost use Rattle.records.specs.Reading.{Lent, Reads, Alone, Nexts};
 ghost use Rattle.records.specs.Parsing.{parsed};
 
-use big_endian::{read_u32, read_u64};
+use big_endian::{Number, read};
 use layout::{Kind, ReadFault, Record};
 
-// The number of the eight bytes of a body from a place on.
-fn eight(body: &[u8], at: usize) -> u64
-    requires { at + 8 ≤ length body.now }
-    ensures value { result ≡ number_of (take 8 (drop at body.now)) }
+// The number that stands in a body from a place on.
+fn field<T: Number<N>, const N: usize>(body: &[u8], at: usize) -> T
+    requires { at + N ≤ length body.now }
+    ensures value { T.value result ≡ number_of (take N (drop at body.now)) }
 {
-    read_u64(body, at).unwrap()
-}
-
-// The number of the four bytes of a body from a place on.
-fn four(body: &[u8], at: usize) -> u32
-    requires { at + 4 ≤ length body.now }
-    ensures value { result ≡ number_of (take 4 (drop at body.now)) }
-{
-    read_u32(body, at).unwrap()
+    read(body, at).unwrap()
 }
 
 // The record of a kind whose body some bytes begin with.
@@ -34,37 +26,37 @@ fn decode<'a>(kind: Kind, body: &'a [u8]) -> Record<'a>
     match kind {
         Kind::Opening => Record::Opening {
             account: body[0],
-            figure: eight(body, 1),
-            limit: eight(body, 9),
-            room: eight(body, 17),
+            figure: field(body, 1),
+            limit: field(body, 9),
+            room: field(body, 17),
         },
         Kind::Fund => Record::Fund {
             account: body[0],
-            amount: eight(body, 1),
+            amount: field(body, 1),
         },
         Kind::Draw => Record::Draw {
             account: body[0],
-            amount: eight(body, 1),
+            amount: field(body, 1),
         },
         Kind::Submit => Record::Submit {
             sender: body[0],
             receiver: body[1],
-            amount: eight(body, 2),
+            amount: field(body, 2),
             priority: body[10],
             flag: body[11],
             reference: &body[12..20],
         },
         Kind::Activate => Record::Activate {
             sender: body[0],
-            receipt: four(body, 1),
+            receipt: field(body, 1),
         },
         Kind::Withdraw => Record::Withdraw {
             sender: body[0],
-            receipt: four(body, 1),
+            receipt: field(body, 1),
         },
         Kind::Reprioritise => Record::Reprioritise {
             sender: body[0],
-            receipt: four(body, 1),
+            receipt: field(body, 1),
             priority: body[5],
         },
         Kind::Run => Record::Run,
@@ -81,7 +73,7 @@ pub fn read_record<'a>(input: &'a [u8], at: usize) -> Result<Option<(Record<'a>,
     if at >= input.len() {
         return Ok(None);
     }
-    let Some(kind) = Kind::of(input[at]) else {
+    let Ok(kind) = Kind::try_from(input[at]) else {
         return Err(ReadFault::UnknownLetter { place: at });
     };
     let rest = &input[at + 1..];
@@ -121,12 +113,10 @@ impl<'a> Reader<'a> {
         ensures answer { Nexts self.old.input self.old.at self.new.at result }
     {
         let Reader { input, at } = self;
-        match read_record(input, *at)? {
-            Some((record, next)) => {
-                *at = next;
-                Ok(Some(record))
-            }
-            None => Ok(None),
-        }
+        let Some((record, next)) = read_record(input, *at)? else {
+            return Ok(None);
+        };
+        *at = next;
+        Ok(Some(record))
     }
 }

@@ -1,9 +1,10 @@
 //! The writer: from a record to its bytes.
-ghost use Rattle.std.specs.Prelude.{◌≡◌, ◌≤◌, ◌++◌, length, drop, MatchBool};
+ghost use Rattle.std.specs.Prelude.{◌≡◌, ◌+◌, ◌≤◌, ◌++◌, length, drop, MatchBool};
+ghost use Rattle.big_endian.specs.BigEndian.{bytes_of, over};
 ghost use Rattle.layout.specs.Records.{plain, Sized, encode, size_of};
 ghost use Rattle.records.specs.Writing.{Wrote};
 
-use big_endian::{write_bytes, write_u8, write_u32, write_u64};
+use big_endian::{Number, write, write_bytes};
 use layout::{Record, WriteFault};
 
 const REFERENCE_LEN: usize = 8;
@@ -18,13 +19,22 @@ fn is_sized(what: &Record<'_>) -> bool
     }
 }
 
-// Puts a record's bytes at the start of a space that has room for them, so that no write below is refused.
+// Puts a number at a place of a space that has room for it.
+fn put<T: Number<N>, const N: usize>(space: &mut [u8], at: usize, number: T)
+    requires { at + N ≤ length space.old }
+    ensures after { space.new ≡ over (bytes_of N (T.value number)) at space.old }
+    ensures len { length space.new ≡ length space.old }
+{
+    write(space, at, number).unwrap();
+}
+
+// Puts a record's bytes at the start of a space that has room for them.
 fn fill(what: &Record<'_>, space: &mut [u8])
     requires sized { Sized what.now }
     requires room { size_of (plain what.now) ≤ length space.old }
     ensures after { space.new ≡ encode (plain what.now) ++ drop (size_of (plain what.now)) space.old }
 {
-    write_u8(space, 0, what.kind().letter());
+    put(space, 0, what.kind().letter());
     match *what {
         Record::Opening {
             account,
@@ -32,18 +42,14 @@ fn fill(what: &Record<'_>, space: &mut [u8])
             limit,
             room,
         } => {
-            write_u8(space, 1, account);
-            write_u64(space, 2, figure);
-            write_u64(space, 10, limit);
-            write_u64(space, 18, room);
+            put(space, 1, account);
+            put(space, 2, figure);
+            put(space, 10, limit);
+            put(space, 18, room);
         }
-        Record::Fund { account, amount } => {
-            write_u8(space, 1, account);
-            write_u64(space, 2, amount);
-        }
-        Record::Draw { account, amount } => {
-            write_u8(space, 1, account);
-            write_u64(space, 2, amount);
+        Record::Fund { account, amount } | Record::Draw { account, amount } => {
+            put(space, 1, account);
+            put(space, 2, amount);
         }
         Record::Submit {
             sender,
@@ -53,29 +59,25 @@ fn fill(what: &Record<'_>, space: &mut [u8])
             flag,
             reference,
         } => {
-            write_u8(space, 1, sender);
-            write_u8(space, 2, receiver);
-            write_u64(space, 3, amount);
-            write_u8(space, 11, priority);
-            write_u8(space, 12, flag);
-            write_bytes(space, 13, reference);
+            put(space, 1, sender);
+            put(space, 2, receiver);
+            put(space, 3, amount);
+            put(space, 11, priority);
+            put(space, 12, flag);
+            write_bytes(space, 13, reference).unwrap();
         }
-        Record::Activate { sender, receipt } => {
-            write_u8(space, 1, sender);
-            write_u32(space, 2, receipt);
-        }
-        Record::Withdraw { sender, receipt } => {
-            write_u8(space, 1, sender);
-            write_u32(space, 2, receipt);
+        Record::Activate { sender, receipt } | Record::Withdraw { sender, receipt } => {
+            put(space, 1, sender);
+            put(space, 2, receipt);
         }
         Record::Reprioritise {
             sender,
             receipt,
             priority,
         } => {
-            write_u8(space, 1, sender);
-            write_u32(space, 2, receipt);
-            write_u8(space, 6, priority);
+            put(space, 1, sender);
+            put(space, 2, receipt);
+            put(space, 6, priority);
         }
         Record::Run | Record::Show | Record::Close => {}
     }
