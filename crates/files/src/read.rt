@@ -15,18 +15,19 @@ pub fn read_front<'a>(heap: Global, input: &'a [u8]) -> Result<Front<'a>, AllocE
     let mut reader = Reader::new(input);
     loop {
         let place = reader.place();
-        let next = match reader.next_record() {
-            Ok(next) => next,
-            Err(fault) => {
-                let stop = Some(fault);
-                return Ok(Front { records, stop });
+        match reader.next_record() {
+            Ok(Some(record)) => records.push(Placed { place, record })?,
+            Ok(None) => {
+                return Ok(Front {
+                    records,
+                    stop: None,
+                });
             }
-        };
-        match next {
-            Some(record) => records.push(Placed { place, record })?,
-            None => {
-                let stop = None;
-                return Ok(Front { records, stop });
+            Err(fault) => {
+                return Ok(Front {
+                    records,
+                    stop: Some(fault),
+                });
             }
         }
     }

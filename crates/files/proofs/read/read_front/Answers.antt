@@ -2,15 +2,20 @@ use Rattle.std.proofs.Common.{vec_items, ◌∙◌}
 use Rattle.files.proofs.Files.{follow_next, whole_at, stopped_at}
 use Rattle.files.proofs.read.read_front.Goals as goal
 
-pub loop-next-preserved : goal.loop-next-preserved
-loop-next-preserved c =
-    let told = c.in-Ok.ensures in (
-      follow_next c.loop-next.reader.input _ (vec_items c.loop-next.records) _ (record { place = c.place-place.result; «record» = c.in-Some.«record» }) c.loop-next.reader.at _ _ c.loop-next.invariant.0 told.same c.in_ok-push-in-Some.ensures.items c.place-place.ensures.value c.in-Some.is told.answer,
-      told.same ∙ c.loop-next.invariant.1,
+pub loop-record-preserved : goal.loop-record-preserved
+loop-record-preserved c =
+    let told = c.in-Ok-Some.ensures in
+    let before = c.loop-record in (
+      follow_next before.reader.input _ (vec_items before.records) _ (record { place = c.place-place.result; «record» = c.in-Ok-Some.«record» }) before.reader.at _ _ before.invariant.0 told.same c.in_ok-push-in-Ok-Some.ensures.items c.place-place.ensures.value c.in-Ok-Some.field-0-is told.answer,
+      told.same ∙ before.invariant.1,
     )
 
-pub returns-in-None : goal.returns-in-None
-returns-in-None c = record { answer = whole_at c.loop-next.reader.input _ _ c.loop-next.reader.at _ _ c.loop-next.invariant.0 (c.loop-next.invariant.1 ∙ c.new-reader.ensures.input) c.in-None.is c.in-Ok.ensures.answer }
+pub returns-in-Ok-None : goal.returns-in-Ok-None
+returns-in-Ok-None c =
+    let before = c.loop-record in
+    record { answer = whole_at before.reader.input _ _ before.reader.at _ _ before.invariant.0 (before.invariant.1 ∙ c.new-reader.ensures.input) c.in-Ok-None.field-0-is c.in-Ok-None.ensures.answer }
 
 pub returns-in-Err : goal.returns-in-Err
-returns-in-Err c = record { answer = stopped_at c.loop-next.reader.input _ _ c.loop-next.reader.at c.in-Err.fault c.loop-next.invariant.0 (c.loop-next.invariant.1 ∙ c.new-reader.ensures.input) c.in-Err.ensures.answer.0 }
+returns-in-Err c =
+    let before = c.loop-record in
+    record { answer = stopped_at before.reader.input _ _ before.reader.at c.in-Err.fault before.invariant.0 (before.invariant.1 ∙ c.new-reader.ensures.input) c.in-Err.ensures.answer.0 }
