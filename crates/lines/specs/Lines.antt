@@ -1,10 +1,9 @@
 -- The text of a listing's lines, byte by byte.
 use Rattle.std.specs.Prelude.{ℕ, List, ◌++◌, codes, decimal}
 use Rattle.layout.specs.declared.fault.ReadFault.{ReadFault}
-use Rattle.layout.specs.declared.fault.ReadFault.TheVariants.{UnknownLetter, CutBody}
 use Rattle.layout.specs.declared.record.Record.{Record}
 use Rattle.layout.specs.declared.record.Record.TheVariants.{Opening, Fund, Draw, Submit, Activate, Withdraw, Reprioritise, Run, Show, Close}
-use Rattle.layout.specs.Faults.{read_number, place_of}
+use Rattle.layout.specs.Faults.{read_number, place_of, fault_words}
 use Rattle.lines.specs.declared.line.Ending.{Ending}
 use Rattle.lines.specs.declared.line.Verdict.{Verdict}
 use Rattle.lines.specs.declared.line.Verdict.TheVariants.{Same, Front, Longer}
@@ -29,11 +28,6 @@ place_text number place text = decimal number ++ (codes " at " ++ (decimal place
 
 abbrev pub entry_text : ℕ → ℕ → Record → List ℕ
 entry_text number place w = place_text number place (fields_text w)
-
--- a refusal in words
-abbrev pub fault_words : ReadFault → List ℕ
-fault_words (UnknownLetter place) = codes "no kind of record has this letter"
-fault_words (CutBody place) = codes "the file ends inside this record"
 
 abbrev pub refusal_text : ℕ → ReadFault → List ℕ
 refusal_text number f = place_text number (place_of f) (codes "refused " ++ (decimal (read_number f) ++ (codes ", " ++ fault_words f)))

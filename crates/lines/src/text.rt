@@ -1,10 +1,10 @@
 //! The lines of a listing as text.
 ghost use Rattle.std.specs.Prelude.{Some};
-ghost use Rattle.lines.specs.Lines.{fields_text, entry_text, fault_words, refusal_text, verdict_text, ending_text};
+ghost use Rattle.lines.specs.Lines.{fields_text, entry_text, refusal_text, verdict_text, ending_text};
 
 use crate::hex::Hex;
 use crate::line::{Ending, Entry, Refusal, Verdict};
-use layout::{ReadFault, Record};
+use layout::Record;
 use std::fmt;
 
 // A record's letter, its kind in words, and its fields by name.
@@ -74,25 +74,13 @@ impl fmt::Display for Entry<'_> {
     ghost output = { λ e. Some (entry_text e.number e.place e.«record») };
 
     fn fmt<W: fmt::Write>(&self, f: &mut fmt::Formatter<W>) -> fmt::Result {
-        let number = self.number;
-        let place = self.place;
-        let fields = Fields(self.record);
+        let Entry {
+            number,
+            place,
+            record,
+        } = *self;
+        let fields = Fields(record);
         write!(f, "{number} at {place}: {fields}")
-    }
-}
-
-// A refusal in words.
-#[derive(Clone, Copy)]
-struct Words(ReadFault);
-
-impl fmt::Display for Words {
-    ghost output = { λ w. Some (fault_words w.0) };
-
-    fn fmt<W: fmt::Write>(&self, f: &mut fmt::Formatter<W>) -> fmt::Result {
-        match &self.0 {
-            ReadFault::UnknownLetter { .. } => f.write_str("no kind of record has this letter"),
-            ReadFault::CutBody { .. } => f.write_str("the file ends inside this record"),
-        }
     }
 }
 
@@ -100,11 +88,10 @@ impl fmt::Display for Refusal {
     ghost output = { λ r. Some (refusal_text r.number r.fault) };
 
     fn fmt<W: fmt::Write>(&self, f: &mut fmt::Formatter<W>) -> fmt::Result {
-        let number = self.number;
-        let place = self.fault.place();
-        let refusal = self.fault.number();
-        let words = Words(self.fault);
-        write!(f, "{number} at {place}: refused {refusal}, {words}")
+        let Refusal { number, fault } = *self;
+        let place = fault.place();
+        let refusal = fault.number();
+        write!(f, "{number} at {place}: refused {refusal}, {fault}")
     }
 }
 
