@@ -21,7 +21,3 @@ pub entries_more : (ws : List Placed) (i : ℕ) (d : Placed) (before after : Lis
 entries_more ws i d before after h e e' =
     let number : i + 1 ≡ 1 + length (take i ws) = omega (arith, length-take-le i ws (omega arith)) in
     e' ∙ (λ j. e j ++ line (number j) (get_or ws i d)) ∙ sym (ap (entries_text 1) (take_more ws i d h) ∙ entries_push 1 (take i ws) (get_or ws i d))
-
--- what is said of a file of which all was read
-pub judged : (s copy : List ℕ) (cut : Bool) (v : Verdict) → cut ≡ false → (copy ≡ s → v ≡ Same) → ((copy ≡ s → ⊥) → v ≡ Front (length s)) → Judged s copy cut v
-judged s copy cut v e same other = subst (λ (b : Bool). Judged s copy b v) (sym e) (same, other)

@@ -26,10 +26,7 @@ pub struct Listing {
 fn add_line<D: fmt::Display + Drop>(text: &mut String, line: D) -> Result<(), AllocError>
     ensures text { OnOk result (IfSome (option_append (D.Display.output line) (Some (10 ∷ []))) (λ bs. string_bytes text.new ≡ string_bytes text.old ++ bs)) }
 {
-    match text.writeln(line) {
-        Ok(()) => Ok(()),
-        Err(_) => Err(AllocError),
-    }
+    writeln!(text, "{line}")
 }
 
 // A line for each record, numbered from 1.
@@ -37,11 +34,9 @@ fn entries_text(heap: Global, records: &[Placed<'_>]) -> Result<String, AllocErr
     ensures text { IfOk result (λ text. string_bytes text ≡ entries_text 1 records.now) }
 {
     let mut text = String::new(heap);
-    for (i, placed) in records.iter().enumerate() {
-        let number = i + 1;
-        let Placed { place, record } = *placed;
+    for (i, &Placed { place, record }) in records.iter().enumerate() {
         let entry = Entry {
-            number,
+            number: i + 1,
             place,
             record,
         };
@@ -65,9 +60,8 @@ fn compare(file: &[u8], copy: &[u8], is_cut: bool) -> Verdict
     ensures answer { Judged file.now copy.now is_cut result }
 {
     if is_cut {
-        return Verdict::Longer;
-    }
-    if copy == file {
+        Verdict::Longer
+    } else if copy == file {
         Verdict::Same
     } else {
         Verdict::Front { of: file.len() }

@@ -1,5 +1,5 @@
 -- What the records of a page hold, and what a write to one of them leaves.
-use Rattle.std.specs.Prelude.{◌≡◌, ℕ, zero, suc, ◌+◌, ◌*◌, ◌^◌, ◌<◌, ◌≤◌, Bool, true, false, List, [], ◌∷◌, ◌++◌, length, take, drop, Ok, Err, vec_items, vec_len, Result, slice_index, slice_set, refl}
+use Rattle.std.specs.Prelude.{◌≡◌, ℕ, zero, suc, ◌+◌, ◌*◌, ◌^◌, ◌<◌, ◌≤◌, List, [], ◌∷◌, ◌++◌, length, take, drop, Ok, Err, vec_items, vec_len, Result, slice_index, slice_set, refl}
 use Rattle.std.proofs.Common.{sym, ap, subst, ◌∙◌, append_assoc, ⊎_elim, inl, inr, arith, add_assoc, length-set, length-append, length-drop, length-take, take-append-drop, length-take-le, take-add, take_at, drop_at, drop-drop}
 use Rattle.std.proofs.Math.Seq.{take-append-add, drop-append-add}
 use Rattle.std.specs.Int.Digits.{AllBelowBase}
@@ -9,6 +9,8 @@ use Rattle.std.proofs.lemmas.Bool.{cases_lt}
 use Rattle.std.specs.Vec.{with_items}
 use Rattle.std.specs.Result.{result_unwrap_or}
 use Rattle.big_endian.specs.BigEndian.{bytes_of, number_of, over, Writes}
+use Rattle.big_endian.specs.declared.NoRoom.{NoRoom}
+use Rattle.big_endian.proofs.Writing.{wrote}
 use Rattle.big_endian.proofs.Numbers.{length-bytes_of, reads_back, writes_back}
 use Rattle.tables.specs.Rows.{Low}
 use Rattle.tables.proofs.Tables.{length_table, low_set, Stands, stands}
@@ -147,13 +149,8 @@ pub kept : (p : List ℕ) (r : Result ℕ PageFault) → PageChecked p r → ((k
 kept p (Ok k) g = ((λ j o. omega (arith, o.sized.bytes, g.sized.bytes)), (λ no. absurd (no k g)), g.formed)
 kept p (Err f) e = ((λ j g. absurd (not_both p f j e g)), (λ no. refl), (omega arith, refl, λ j. omega arith))
 
--- a write that fits is done
-wrote : (bs old new : List ℕ) (at : ℕ) (r : Bool) → at + length bs ≤ length old → Writes bs at old new r → new ≡ over bs at old
-wrote bs old new at true h w = w.1
-wrote bs old new at false h w = absurd (omega (arith, w.0))
-
 -- what the write of a figure leaves
-pub write_in : (b : PageBook) (a x : ℕ) (s ws : List ℕ) (r : Bool) → a < b.accounts → x ≤ 10 ^ 16 → s ≡ bytes_in b → length ws ≡ vec_len b.page → Writes (bytes_of 8 x) (9 * a + 1) s ws r →
+pub write_in : (b : PageBook) (a x : ℕ) (s ws : List ℕ) (r : Result (Unit {0}) NoRoom) → a < b.accounts → x ≤ 10 ^ 16 → s ≡ bytes_in b → length ws ≡ vec_len b.page → Writes (bytes_of 8 x) (9 * a + 1) s ws r →
     (vec_items (with_items b.page ws) ≡ over (bytes_of 8 x) (9 * a + 1) (bytes_in b))
     × Formed b.accounts (vec_items (with_items b.page ws))
     × (figures_of b.accounts (vec_items (with_items b.page ws)) ≡ slice_set (figures_in b) a x)
@@ -162,7 +159,7 @@ write_in b a x s ws r h le e l w =
     let p = bytes_in b in
     let q = vec_items (with_items b.page ws) in
     let fits : 9 * a + 1 + length (bytes_of 8 x) ≤ length s = omega (arith, long k p b.formed, length-bytes_of 8 x, ap length e) in
-    let bytes = with_items_is b.page ws l ∙ wrote (bytes_of 8 x) s ws (9 * a + 1) r fits w ∙ ap (over (bytes_of 8 x) (9 * a + 1)) e in
+    let bytes = with_items_is b.page ws l ∙ (wrote (bytes_of 8 x) s ws (9 * a + 1) r fits w).1 ∙ ap (over (bytes_of 8 x) (9 * a + 1)) e in
     (bytes, formed_write k a x p q b.formed h le bytes, figures_write k a x p q b.formed h le bytes)
 
 -- the number of accounts is that of the meaning

@@ -8,7 +8,7 @@ ghost use Rattle.pages.specs.Lengths.{length_figures};
 ghost use Rattle.std.proofs.lemmas.List.{length-map};
 
 use crate::{PageBook, PageFault};
-use big_endian::{read_u64, write_u64};
+use big_endian::{read, write};
 use book::{Book, BookFault, LARGEST_FIGURE, MOST_ACCOUNTS, Reason, check_account, check_move};
 
 /// What each record of a page begins with.
@@ -22,7 +22,7 @@ fn figure_at(page: &[u8], account: usize) -> u64
     requires within { 9 * account + 9 ≤ length page.now }
     ensures value { result ≡ figure_at page.now account }
 {
-    read_u64(page, RECORD_SIZE * account + 1).unwrap()
+    read(page, RECORD_SIZE * account + 1).unwrap()
 }
 
 // Whether a record that is within the page is well formed. It refuses 15, then 2.
@@ -89,7 +89,7 @@ impl PageBook {
         ensures page { Written self.old account figure self.new }
         ensures figures { figures_in self.new ≡ slice_set (figures_in self.old) account figure }
     {
-        write_u64(self.page.as_mut_slice(), RECORD_SIZE * account + 1, figure);
+        write(self.page.as_mut_slice(), RECORD_SIZE * account + 1, figure).unwrap();
     }
 }
 

@@ -5,6 +5,6 @@ pub mod laws;
 pub mod read;
 pub mod write;
 
-pub use layout::{Kind, ReadFault, Record, WriteFault};
+pub use layout::{Kind, NoKind, ReadFault, Record, WriteFault};
 pub use read::{Reader, read_record};
 pub use write::write_record;

@@ -1,14 +1,11 @@
 //! The reader at each kind, each cut and each letter.
-use crate::samples::{KINDS, bytes_of, is_sample};
-use records::{Kind, ReadFault, Reader, read_record};
+use crate::samples::{KINDS, REFERENCE, bytes_of, sample};
+use records::{Kind, NoKind, ReadFault, Reader, read_record};
 use std::test::Fail;
 
 // The refusal at a place.
 fn refusal(file: &[u8], at: usize) -> Option<ReadFault> {
-    match read_record(file, at) {
-        Ok(_) => None,
-        Err(fault) => Some(fault),
-    }
+    read_record(file, at).err()
 }
 
 // Whether there are no more records at a place.
@@ -26,7 +23,7 @@ fn every_kind_is_read(rt: HostRuntime) -> Result<(), Fail> {
         assert_eq!(rt; record.kind(), kind);
         assert_eq!(rt; record.size(), file.len());
         assert_eq!(rt; next, file.len());
-        assert!(rt; is_sample(&record));
+        assert_eq!(rt; record, sample(kind, REFERENCE));
     }
     Ok(())
 }
@@ -53,16 +50,19 @@ fn every_other_letter_is_refused(rt: HostRuntime) {
     let mut known = 0usize;
     for letter in 0..=255u8 {
         let file = [b'R', letter, 0];
-        match Kind::of(letter) {
-            Some(kind) => {
+        match Kind::try_from(letter) {
+            Ok(kind) => {
                 assert!(rt; b"OFDSAWLRBC".contains(&letter));
                 assert_eq!(rt; kind.letter(), letter);
                 known = known.saturating_add(1);
             }
-            None => assert_eq!(rt;
-                refusal(&file, 1),
-                Some(ReadFault::UnknownLetter { place: 1 })
-            ),
+            Err(NoKind(other)) => {
+                assert_eq!(rt; other, letter);
+                assert_eq!(rt;
+                    refusal(&file, 1),
+                    Some(ReadFault::UnknownLetter { place: 1 })
+                );
+            }
         }
     }
     assert_eq!(rt; known, 10);

@@ -7,12 +7,7 @@ const FILLER: u8 = 0xaa;
 
 // Whether a space is as it was.
 fn is_untouched(space: &[u8]) -> bool {
-    for byte in space {
-        if *byte != FILLER {
-            return false;
-        }
-    }
-    true
+    space.iter().all(|byte| *byte == FILLER)
 }
 
 #[test]
