@@ -1,10 +1,13 @@
 //! Numbers of one, four and eight bytes, the greatest byte first: read out of a slice and written into one.
 #![tactic(auto)]
 
-ghost use Rattle.std.specs.Prelude.{◌≡◌, ℕ, ◌+◌, ◌<◌, ◌≤◌, length, take, drop, MatchOption};
+ghost use Rattle.std.specs.Prelude.{◌≡◌, ℕ, ◌+◌, ◌<◌, ◌≤◌, length, take, drop, MatchOption, Some, codes};
 ghost use Rattle.std.specs.Int.Digits.{AllBelowBase};
 ghost use Rattle.std.proofs.Common.{arith};
 ghost use Rattle.big_endian.specs.BigEndian.{bytes_of, number_of, ReadsAs, Writes, ReadsBack, WritesBack};
+
+use std::error::Error;
+use std::fmt;
 
 /// A number that has `N` bytes.
 pub trait Number<const N: usize>: Sized {
@@ -67,6 +70,16 @@ impl Number<1> for u8 {
 /// There is no place for all the bytes that were to be written.
 #[derive(Clone, Copy, Debug, PartialEq, Eq)]
 pub struct NoRoom;
+
+impl fmt::Display for NoRoom {
+    ghost output = { λ _. Some (codes "there is no room for these bytes") };
+
+    fn fmt<W: fmt::Write>(&self, f: &mut fmt::Formatter<W>) -> fmt::Result {
+        f.write_str("there is no room for these bytes")
+    }
+}
+
+impl Error for NoRoom {}
 
 /// The `N` bytes of `input` from `at` on, or `None` where there are fewer.
 pub fn bytes_at<const N: usize>(input: &[u8], at: usize) -> Option<&[u8; N]>

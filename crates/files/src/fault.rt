@@ -1,10 +1,12 @@
 //! Why a whole file is not read or not written.
-ghost use Rattle.std.specs.Prelude.{◌≡◌};
-ghost use Rattle.files.specs.Faults.{file_number};
+ghost use Rattle.std.specs.Prelude.{◌≡◌, Some};
+ghost use Rattle.files.specs.Faults.{file_number, file_words};
 ghost use Rattle.files.specs.declared.fault.FileFault.TheVariants.{Write, Memory};
 
 use layout::{ReadFault, WriteFault};
 use std::alloc::AllocError;
+use std::error::Error;
+use std::fmt;
 
 /// Why a whole file was not read or written.
 #[derive(Clone, Copy, Debug, PartialEq, Eq)]
@@ -27,6 +29,20 @@ impl FileFault {
         }
     }
 }
+
+impl fmt::Display for FileFault {
+    ghost output = { λ f. Some (file_words f) };
+
+    fn fmt<W: fmt::Write>(&self, f: &mut fmt::Formatter<W>) -> fmt::Result {
+        match self {
+            FileFault::Read(fault) => write!(f, "{fault}"),
+            FileFault::Write(fault) => write!(f, "{fault}"),
+            FileFault::Memory => f.write_str("there is no memory"),
+        }
+    }
+}
+
+impl Error for FileFault {}
 
 impl From<WriteFault> for FileFault {
     ghost from_gives = { λ fault r. r ≡ Write fault };

@@ -22,3 +22,7 @@ fault_words (CutBody place) = codes "the file ends inside this record"
 abbrev pub write_number : WriteFault → ℕ
 write_number BadReference = 16
 write_number ShortSpace = 13
+
+abbrev pub write_words : WriteFault → List ℕ
+write_words BadReference = codes "the reference is not of eight bytes"
+write_words ShortSpace = codes "the space is too short for the record"

@@ -1,6 +1,6 @@
 //! Why a record is not read or not written.
 ghost use Rattle.std.specs.Prelude.{◌≡◌, Some};
-ghost use Rattle.layout.specs.Faults.{read_number, place_of, fault_words, write_number};
+ghost use Rattle.layout.specs.Faults.{read_number, place_of, fault_words, write_number, write_words};
 
 use std::error::Error;
 use std::fmt;
@@ -69,3 +69,16 @@ impl WriteFault {
         }
     }
 }
+
+impl fmt::Display for WriteFault {
+    ghost output = { λ f. Some (write_words f) };
+
+    fn fmt<W: fmt::Write>(&self, f: &mut fmt::Formatter<W>) -> fmt::Result {
+        f.write_str(match self {
+            WriteFault::BadReference => "the reference is not of eight bytes",
+            WriteFault::ShortSpace => "the space is too short for the record",
+        })
+    }
+}
+
+impl Error for WriteFault {}

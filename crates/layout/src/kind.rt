@@ -1,7 +1,10 @@
 //! The kinds of record.
-ghost use Rattle.std.specs.Prelude.{◌≡◌};
+ghost use Rattle.std.specs.Prelude.{◌≡◌, ◌++◌, Some, codes, decimal};
 ghost use Rattle.layout.specs.Layout.{letter_of, body_of};
 ghost use Rattle.layout.specs.Letters.{Named};
+
+use std::error::Error;
+use std::fmt;
 
 /// The ten kinds of record.
 #[derive(Clone, Copy, Debug, PartialEq, Eq)]
@@ -21,6 +24,16 @@ pub enum Kind {
 /// A letter that no kind of record has.
 #[derive(Clone, Copy, Debug, PartialEq, Eq)]
 pub struct NoKind(pub u8);
+
+impl fmt::Display for NoKind {
+    ghost output = { λ e. Some (codes "no kind of record has the letter " ++ decimal e.0) };
+
+    fn fmt<W: fmt::Write>(&self, f: &mut fmt::Formatter<W>) -> fmt::Result {
+        write!(f, "no kind of record has the letter {}", self.0)
+    }
+}
+
+impl Error for NoKind {}
 
 /// The kind that a letter stands for.
 impl TryFrom<u8> for Kind {
