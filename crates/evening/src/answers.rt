@@ -2,28 +2,15 @@
 use books::BookFault;
 use std::fmt;
 
-/// A figure, that the call was done, or the number of a refusal.
-#[derive(Clone, Copy)]
-pub enum Figure {
-    Is(u64),
-    Done,
-    Refused(u8),
-}
+/// What a call answered, shown as its value or as the number of the refusal.
+#[derive(Clone, Copy, Debug)]
+pub struct Answer<T>(pub Result<T, BookFault>);
 
-impl fmt::Display for Figure {
+impl<T: fmt::Display> fmt::Display for Answer<T> {
     fn fmt<W: fmt::Write>(&self, f: &mut fmt::Formatter<W>) -> fmt::Result {
-        match *self {
-            Figure::Is(n) => write!(f, "{n}"),
-            Figure::Done => write!(f, "ok"),
-            Figure::Refused(n) => write!(f, "no {n}"),
+        match &self.0 {
+            Ok(value) => write!(f, "{value}"),
+            Err(fault) => write!(f, "no {}", fault.number()),
         }
-    }
-}
-
-/// What a question answered.
-pub fn figure_of(answer: Result<u64, BookFault>) -> Figure {
-    match answer {
-        Ok(n) => Figure::Is(n),
-        Err(fault) => Figure::Refused(fault.number()),
     }
 }

@@ -4,7 +4,7 @@
 mod answers;
 mod steps;
 
-use crate::answers::figure_of;
+use crate::answers::Answer;
 use crate::steps::{STEPS, act};
 use books::{Book, TableBook};
 use layers::{CreditBook, RoomBook};
@@ -15,11 +15,11 @@ fn main(rt: HostRuntime) -> anyhow::Result<()> {
     let lending = CreditBook::new(TableBook::new(row), &[50]);
     let mut book = RoomBook::new(lending, &[1_000, 40, 1_000_000_000_000_001]);
     for step in STEPS {
-        let answer = act(&mut book, step);
+        let answer = Answer(act(&mut book, step).map(|()| "ok"));
         let account = step.account();
-        let sendable = figure_of(book.ask_sendable(account));
-        let open = figure_of(book.ask_open(account));
-        let loan = figure_of(book.below().ask_loan(account));
+        let sendable = Answer(book.ask_sendable(account));
+        let open = Answer(book.ask_open(account));
+        let loan = Answer(book.below().ask_loan(account));
         println!(rt; "{step} {answer}: sendable {sendable} open {open} loan {loan}")?;
     }
     Ok(())

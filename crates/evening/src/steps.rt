@@ -1,11 +1,10 @@
 //! The steps of the evening.
-use crate::answers::Figure;
-use books::{Book, BookFault, TableBook};
-use layers::{CreditBook, RoomBook};
+use books::{Book, BookFault};
 use std::fmt;
 
+// The evening is a constant table of steps, each printed before its answer, so a step is data and no closure.
 /// A look at an account, a sum taken from it, or a sum put to it.
-#[derive(Clone, Copy)]
+#[derive(Clone, Copy, Debug)]
 pub enum Step {
     Look(usize),
     Take(usize, u64),
@@ -52,19 +51,11 @@ impl fmt::Display for Step {
     }
 }
 
-// Whether a move was done.
-fn done(answer: Result<(), BookFault>) -> Figure {
-    match answer {
-        Ok(()) => Figure::Done,
-        Err(fault) => Figure::Refused(fault.number()),
-    }
-}
-
-/// Does the step, and tells what the stack answered.
-pub fn act(book: &mut RoomBook<CreditBook<TableBook>>, step: Step) -> Figure {
+/// Does the step, and tells what the book answered.
+pub fn act<B: Book>(book: &mut B, step: Step) -> Result<(), BookFault> {
     match step {
-        Step::Look(_) => Figure::Done,
-        Step::Take(account, sum) => done(book.take(account, sum)),
-        Step::Put(account, sum) => done(book.put(account, sum)),
+        Step::Look(_) => Ok(()),
+        Step::Take(account, sum) => book.take(account, sum),
+        Step::Put(account, sum) => book.put(account, sum),
     }
 }

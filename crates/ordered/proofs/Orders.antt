@@ -1,22 +1,23 @@
 -- A row in order stays so when an entry goes out, and when one comes to its place.
-use Rattle.std.proofs.Common.{◌≡◌, ℕ, zero, suc, Bool, true, false, cond, not, List, [], ◌∷◌, take, drop, Some, None, vec_items, Option, Vec, sym, refl, ◌∙◌, subst, arith}
-use Rattle.std.specs.List.{remove, AllByRecursion}
-use Rattle.std.proofs.ByRecursion.{All-append, All-drop, All-from_get_or, All-get_or, All-take, All-weaker}
+use Rattle.std.proofs.Common.{◌≡◌, ℕ, suc, ◌<◌, length, Bool, true, false, cond, not, List, [], ◌∷◌, sym, refl, ◌∙◌, arith}
+use Rattle.std.specs.List.{remove, AllByRecursion, AllPairs}
+use Rattle.std.proofs.lemmas.List.Kept.{AllPairs-cons}
+use Rattle.std.proofs.lemmas.List.Quantifiers.{all_pairs_remove}
+use Rattle.std.proofs.ByRecursion.{All-from_get_or, All-get_or, All-weaker}
 use Rattle.std.proofs.lemmas.Bool.{not-false}
 use Rattle.ordered.specs.Order.{placed, Ordered, Fresh}
-use Rattle.ordered.specs.Rows.{Removed}
 
 module _ {X : Type 0} (p : X → X → Bool) where
   -- x precedes y
   abbrev Before : X → X → Type 0
   Before x y = p x y ≡ true
 
+  pairs : (xs : List X) → Ordered p xs → AllPairs Before xs
+  pairs xs o i j d below within = o (i, j) d (below, within)
+
   -- a row in order, by its first entry and the rest
   ordered_cons : (x : X) (xs : List X) → AllByRecursion (Before x) xs → Ordered p xs → Ordered p (x ∷ xs)
-  ordered_cons x xs a o (zero, zero) d h = absurd (omega arith)
-  ordered_cons x xs a o (zero, suc j) d h = All-get_or (Before x) xs j d (omega arith) a
-  ordered_cons x xs a o (suc i, zero) d h = absurd (omega arith)
-  ordered_cons x xs a o (suc i, suc j) d h = o (i, j) d (omega arith, omega arith)
+  ordered_cons x xs a o at d h = AllPairs-cons Before x xs (λ k z l. All-get_or (Before x) xs k z l a) (pairs xs o) at.0 at.1 d h.0 h.1
 
   ordered_first : (x : X) (xs : List X) → Ordered p (x ∷ xs) → AllByRecursion (Before x) xs
   ordered_first x xs o = All-from_get_or (Before x) xs x (λ i l. o (0, suc i) x (omega arith, omega arith))
@@ -24,13 +25,8 @@ module _ {X : Type 0} (p : X → X → Bool) where
   ordered_rest : (x : X) (xs : List X) → Ordered p (x ∷ xs) → Ordered p xs
   ordered_rest x xs o at d h = o (suc at.0, suc at.1) d (omega arith, omega arith)
 
-  ordered_removed : (xs : List X) (i : ℕ) → Ordered p xs → Ordered p (remove xs i)
-  ordered_removed [] zero o = o
-  ordered_removed [] (suc i) o = o
-  ordered_removed (x ∷ xs) zero o = ordered_rest x xs o
-  ordered_removed (x ∷ xs) (suc i) o =
-      let first = ordered_first x xs o in
-      ordered_cons x (remove xs i) (All-append (Before x) (take i xs) (drop (suc i) xs) (All-take (Before x) i xs first) (All-drop (Before x) (suc i) xs first)) (ordered_removed xs i (ordered_rest x xs o))
+  pub ordered_removed : (xs : List X) (i : ℕ) → i < length xs → Ordered p xs → Ordered p (remove xs i)
+  ordered_removed xs i within o at d h = all_pairs_remove Before xs i within (pairs xs o) at.0 at.1 d h.0 h.1
 
   all_placed : (P : X → Type 0) (x : X) (xs : List X) → P x → AllByRecursion P xs → AllByRecursion P (placed p x xs)
   all_placed P x [] h a = (h, tt)
@@ -50,8 +46,3 @@ module _ {X : Type 0} (p : X → X → Bool) where
         | false ↦ λ e. ordered_cons y (placed p x ys) (all_placed (Before y) x ys (not-false (p y x) (sym (one x y f.0) ∙ e)) first) (ordered_placed key one carries x ys (ordered_rest y ys o) f.1)
       ]
       refl
-
--- whatever a removal answers
-pub ordered_out : {X Z : Type 0} (p : X → X → Bool) (place : ℕ) (before after : Vec X Z) (r : Option X) → Removed place before r after → Ordered p (vec_items before) → Ordered p (vec_items after)
-ordered_out p place before after (Some x) out o = subst (Ordered p) (sym out.items) (ordered_removed p (vec_items before) place o)
-ordered_out p place before after None out o = subst (λ v. Ordered p (vec_items v)) (sym out.1) o

@@ -1,12 +1,10 @@
 -- What a row holds after its part from a place on was turned by one.
-use Rattle.std.proofs.Common.{◌≡◌, ℕ, ◌+◌, ◌-◌, ◌<◌, ◌≤◌, Bool, true, false, List, [], ◌∷◌, ◌++◌, length, get_or, take, drop, is_some, Some, None, vec_items, vec_len, vec_capacity, Option, Vec, sym, ap, ◌∙◌, add-one, arith, length-drop}
+use Rattle.std.proofs.Common.{◌≡◌, ℕ, ◌-◌, ◌≤◌, Bool, List, [], ◌∷◌, ◌++◌, length, take, drop, sym, ap, ◌∙◌, add-one, arith, length-drop}
 use borrow.Rule.Slice.PartMut.{put_mid}
-use Rattle.std.proofs.lemmas.List.{append-nil, append_assoc, drop_all, drop-append-le, drop_at, drop-drop, drop_more, length_push, same_from_push, take-append-le, take_at}
+use Rattle.std.proofs.lemmas.List.{append-nil, append_assoc, drop_all, drop-append-le, drop_at, drop-drop, length_push, same_from_push, take-append-le, take_at}
 use Rattle.std.specs.List.{insert, remove}
-use Rattle.std.specs.Option.{option_to_list}
 use Rattle.ordered.specs.Order.{ahead, placed}
-use Rattle.ordered.specs.Rows.{Sent, Removed}
-use Rattle.ordered.proofs.Places.{ahead_within, placed_inserted}
+use Rattle.ordered.proofs.Places.{placed_inserted}
 
 module _ {X : Type 0} where
   -- nothing lies past a part that reaches the end
@@ -36,28 +34,12 @@ module _ {X : Type 0} where
 
   -- the last of the row went to the place that was found for it
   pub placed_last : (p : X → X → Bool) (others : List X) (last : X) (row part ys : List X) (i : ℕ) →
-      row ≡ others ++ last ∷ [] → i ≡ ahead p last others → part ≡ drop i row →
+      row ≡ others ++ last ∷ [] → i ≡ ahead p last others → i ≤ length others → part ≡ drop i row →
       ys ≡ drop (length part - 1) part ++ take (length part - 1) part →
       (xs : List X) (x : X) → row ≡ xs ++ x ∷ [] → put_mid i (length row - i) row ys ≡ placed p x xs
-  placed_last p others last row part ys i split found from turned xs x is =
+  placed_last p others last row part ys i split found within from turned xs x is =
       let same = same_from_push others xs last x (sym split ∙ is) in
       let here : i ≡ ahead p x xs = found ∙ ap (λ z. ahead p z others) same.1 ∙ ap (ahead p x) same.0 in
-      turned_right xs x row part ys i is (omega (arith, ahead_within p x xs)) from turned
+      turned_right xs x row part ys i is (omega (arith, within, ap length same.0)) from turned
       ∙ ap (λ k. insert xs k x) here
       ∙ sym (placed_inserted p x xs)
-
--- where there is such a place, the entry is sent
-pub sent_so : {X : Type 0} (xs before after : List X) (place : ℕ) (r : Bool) → before ≡ xs → place < length xs → Sent before place r after → after ≡ remove xs place ++ take 1 (drop place xs)
-sent_so xs before after place true e within s = s.1 ∙ ap (λ ws. remove ws place ++ take 1 (drop place ws)) e
-sent_so xs before after place false e within s = absurd (omega (arith, ap length e))
-
--- the entry that was sent behind the others went out
-pub popped : {X Z : Type 0} (place : ℕ) (before after : Vec X Z) (r : Option X) →
-    place < vec_len before → vec_len before ≡ length (vec_items before) →
-    vec_items after ++ option_to_list r ≡ remove (vec_items before) place ++ take 1 (drop place (vec_items before)) →
-    vec_len after + length (option_to_list r) ≡ vec_len before → vec_capacity after ≡ vec_capacity before → is_some r ≡ true → Removed place before r after
-popped {X} place before after (Some x) within long is len capacity some =
-    let xs = vec_items before in
-    let same = λ (d : X). same_from_push (vec_items after) (remove xs place) x (get_or xs place d) (is ∙ ap (λ ws. remove xs place ++ take 1 ws) (drop_more xs place d (omega arith))) in
-    record { within = within; value = λ d. (same d).1; items = (same x).0; len = len; capacity = capacity }
-popped place before after None within long is len capacity some = absurd (let z : ◌≡◌ {A = ℕ} 0 1 = cc in omega arith)

@@ -1,12 +1,13 @@
 -- What the calls on a row answer and what they leave in it: the row before the call, the answer, the row after.
-use Rattle.std.specs.Prelude.{◌≡◌, ℕ, ◌+◌, ◌<◌, ◌≤◌, Bool, true, false, List, ◌++◌, length, take, drop, Some, None, Ok, Err, vec_items, vec_len, vec_capacity, Option, Result, Vec, slice_index_or}
+use Rattle.std.specs.Prelude.{◌≡◌, ℕ, ◌+◌, ◌<◌, ◌≤◌, Bool, List, ◌++◌, length, take, drop, Some, None, Ok, Err, vec_items, vec_len, vec_capacity, Option, Result, Vec, slice_index_or}
 use Rattle.std.specs.List.{remove}
+use Rattle.ordered.specs.declared.NoPlace.{NoPlace}
 use Rattle.ordered.specs.Order.{placed}
 
--- the entry at a place goes behind all the others, which keep their order; false where there is no such place
-abbrev pub Sent : {X : Type 0} → List X → ℕ → Bool → List X → Type 0
-Sent before place true after = (place < length before) × (after ≡ remove before place ++ take 1 (drop place before))
-Sent before place false after = (length before ≤ place) × (after ≡ before)
+-- the entry at a place goes behind all the others, which keep their order; or there is no such place, which the refusal names
+abbrev pub Sent : {X : Type 0} → List X → ℕ → Result (Unit {0}) NoPlace → List X → Type 0
+Sent before place (Ok u) after = (place < length before) × (after ≡ remove before place ++ take 1 (drop place before))
+Sent before place (Err e) after = (length before ≤ place) × (after ≡ before) × (e.place ≡ place)
 
 -- x came in at its place: there was room for it, and the capacity is as it was
 pub record Entered {X Z : Type 0} (p : X → X → Bool) (x : X) (before after : Vec X Z) : Type 0 where

@@ -1,9 +1,12 @@
 //! Rows kept in order, for every kind of entry whose order obeys three laws.
 #![tactic(auto)]
 
-ghost use Rattle.std.specs.Prelude.{◌≡◌, ℕ, ◌≤◌, Bool, true, false, not, List, [], ◌∷◌, ◌++◌, length, ◌≢◌};
+ghost use Rattle.std.specs.Prelude.{◌≡◌, ℕ, ◌≤◌, Bool, true, false, not, List, [], ◌∷◌, ◌++◌, length, ◌≢◌, Some, codes, decimal};
 ghost use Rattle.ordered.specs.Order.{ahead, placed, Ordered, Fresh};
 ghost use Rattle.ordered.specs.Rows.{Sent, Inserted, Removed};
+
+use std::error::Error;
+use std::fmt;
 
 /// An entry with a place among others of its kind: of two with different keys, just one precedes the other.
 pub trait Ranked {
@@ -29,12 +32,9 @@ pub fn place_of<T: Ranked>(row: &[T], incoming: &T) -> usize
     ensures value { result ≡ ahead T.precedes incoming.now row.now }
     ensures within { result ≤ length row.now }
 {
-    for (i, other) in row.iter().enumerate() {
-        if incoming.before(other) {
-            return i;
-        }
-    }
-    row.len()
+    row.iter()
+        .position(|other| incoming.before(other))
+        .unwrap_or(row.len())
 }
 
 /// Moves the last entry of `row` to its place among the others. An empty row stays empty.
@@ -49,17 +49,34 @@ pub fn place_last<T: Ranked>(row: &mut [T])
     }
 }
 
-/// Moves the entry at `place` behind all the others, which keep their order. Where there is no such place it answers false and moves nothing.
-pub fn send_last<T>(row: &mut [T], place: usize) -> bool
+/// A row has no entry at this place.
+#[derive(Clone, Copy, Debug, PartialEq, Eq)]
+pub struct NoPlace {
+    pub place: usize,
+}
+
+impl fmt::Display for NoPlace {
+    ghost output = { λ e. Some (codes "there is no place " ++ decimal e.place) };
+
+    fn fmt<W: fmt::Write>(&self, f: &mut fmt::Formatter<W>) -> fmt::Result {
+        write!(f, "there is no place {}", self.place)
+    }
+}
+
+impl Error for NoPlace {}
+
+/// Moves the entry at `place` behind all the others, which keep their order. Where there is no such place it moves nothing.
+pub fn send_last<T>(row: &mut [T], place: usize) -> Result<(), NoPlace>
     ensures answer { Sent row.old place result row.new }
 {
     if place >= row.len() {
-        return false;
+        return Err(NoPlace { place });
     }
     row[place..].rotate_left(1);
-    true
+    Ok(())
 }
 
+// No type holds a row in order: an entry whose key stands in the row already has no place, and such a type would have to refuse it.
 /// Puts `entry` at its place, in memory that `row` has reserved. A full row is left as it is, and the entry handed back.
 pub fn insert<T: Ranked>(row: &mut Vec<T>, entry: T) -> Result<(), T>
     ensures answer { Inserted T.precedes entry row.old result row.new }
@@ -68,6 +85,7 @@ pub fn insert<T: Ranked>(row: &mut Vec<T>, entry: T) -> Result<(), T>
     if row.len() == row.capacity() {
         return Err(entry);
     }
+    // `Vec::insert` may ask for memory, and this does not.
     row.push_reserved(entry);
     place_last(row.as_mut_slice());
     Ok(())
@@ -81,6 +99,5 @@ pub fn remove<T: Ranked>(row: &mut Vec<T>, place: usize) -> Option<T>
     if place >= row.len() {
         return None;
     }
-    let _ = send_last(row.as_mut_slice(), place);
-    row.pop()
+    Some(row.remove(place))
 }

@@ -1,6 +1,7 @@
 //! Entries that move within a row.
 use crate::samples::{Held, has};
-use ordered::{place_last, place_of, send_last};
+use ordered::{NoPlace, place_last, place_of, send_last};
+use std::test::Fail;
 
 // A row of four.
 fn four(a: u8, b: u8, c: u8, d: u8) -> [Held; 4] {
@@ -37,14 +38,26 @@ fn the_last_goes_to_its_place_and_the_others_keep_their_order(rt: HostRuntime) {
 fn a_row_of_none_stays_empty(rt: HostRuntime) {
     let mut none: [Held; 0] = [];
     place_last(&mut none);
-    assert!(rt; has(&none, &[]) && !send_last(&mut none, 0));
+    assert!(rt; has(&none, &[]));
+    assert_eq!(rt; send_last(&mut none, 0), Err(NoPlace { place: 0 }));
 }
 
 #[test]
 fn an_entry_is_sent_behind_the_others(rt: HostRuntime) {
     let mut row = four(10, 20, 30, 40);
-    assert!(rt; send_last(&mut row, 0) && has(&row, &[20, 30, 40, 10]));
-    assert!(rt; send_last(&mut row, 1) && has(&row, &[20, 40, 10, 30]));
-    assert!(rt; send_last(&mut row, 3) && has(&row, &[20, 40, 10, 30]));
-    assert!(rt; !send_last(&mut row, 4) && has(&row, &[20, 40, 10, 30]));
+    assert_eq!(rt; send_last(&mut row, 0), Ok(()));
+    assert!(rt; has(&row, &[20, 30, 40, 10]));
+    assert_eq!(rt; send_last(&mut row, 1), Ok(()));
+    assert!(rt; has(&row, &[20, 40, 10, 30]));
+    assert_eq!(rt; send_last(&mut row, 3), Ok(()));
+    assert!(rt; has(&row, &[20, 40, 10, 30]));
+    assert_eq!(rt; send_last(&mut row, 4), Err(NoPlace { place: 4 }));
+    assert!(rt; has(&row, &[20, 40, 10, 30]));
+}
+
+#[test]
+fn a_refusal_names_the_place(rt: HostRuntime) -> Result<(), Fail> {
+    let text = NoPlace { place: 4 }.to_string(rt.alloc())?;
+    assert_eq!(rt; text.as_str(), "there is no place 4");
+    Ok(())
 }

@@ -5,18 +5,12 @@ use std::test::Fail;
 
 // The receipt that a full row hands back.
 fn handed_back(row: &mut Vec<Held>, receipt: u8) -> Option<u8> {
-    match insert(row, Held { receipt }) {
-        Ok(()) => None,
-        Err(back) => Some(back.receipt),
-    }
+    insert(row, Held { receipt }).err().map(|back| back.receipt)
 }
 
 // The receipt of the entry that goes out at a place.
 fn taken(row: &mut Vec<Held>, place: usize) -> Option<u8> {
-    match remove(row, place) {
-        Some(out) => Some(out.receipt),
-        None => None,
-    }
+    remove(row, place).map(|out| out.receipt)
 }
 
 #[test]
@@ -33,21 +27,12 @@ fn entries_come_in_and_go_out_in_order(rt: HostRuntime) -> Result<(), Fail> {
     Ok(())
 }
 
-// The marks of waiting entries, in the order in which they stand.
-fn marks(row: &[Waiting]) -> [u8; 4] {
-    let mut marks = [0; 4];
-    for i in 0..row.len().min(4) {
-        marks[i] = row[i].mark;
-    }
-    marks
-}
-
 #[test]
 fn priority_goes_before_mark_and_equal_priority_by_mark(rt: HostRuntime) -> Result<(), Fail> {
     let mut row = Vec::with_capacity(rt.alloc(), 4)?;
     for (priority, mark) in [(50, 7), (50, 3), (10, 9), (90, 1)] {
         assert!(rt; insert(&mut row, Waiting { priority, mark }).is_ok());
     }
-    assert_eq!(rt; marks(row.as_slice()), [9, 3, 7, 1]);
+    assert!(rt; row.iter().map(|waiting| waiting.mark).eq([9, 3, 7, 1]));
     Ok(())
 }

@@ -4,7 +4,7 @@ ghost use Rattle.std.proofs.Common.{rules};
 
 use ordered::Ranked;
 
-#[derive(Drop)]
+#[derive(PartialEq, Eq, PartialOrd, Ord, Drop)]
 pub struct Waiting {
     pub priority: u8,
     pub mark: u8,
@@ -22,11 +22,11 @@ impl Ranked for Waiting {
     ghost precedence_carries = { Prim.search rules };
 
     fn before(&self, other: &Waiting) -> bool {
-        self.priority < other.priority || self.priority == other.priority && self.mark < other.mark
+        self < other
     }
 }
 
-#[derive(Drop)]
+#[derive(PartialEq, Eq, PartialOrd, Ord, Drop)]
 pub struct Held {
     pub receipt: u8,
 }
@@ -43,19 +43,13 @@ impl Ranked for Held {
     ghost precedence_carries = { Prim.search rules };
 
     fn before(&self, other: &Held) -> bool {
-        self.receipt < other.receipt
+        self < other
     }
 }
 
 /// Whether the receipts of a row are these, in their order.
 pub fn has(row: &[Held], receipts: &[u8]) -> bool {
-    if row.len() != receipts.len() {
-        return false;
-    }
-    for i in 0..row.len() {
-        if row[i].receipt != receipts[i] {
-            return false;
-        }
-    }
-    true
+    row.iter()
+        .map(|held| held.receipt)
+        .eq(receipts.iter().copied())
 }
