@@ -1,5 +1,5 @@
 -- A space as it is filled from its start, field by field.
-use Rattle.std.proofs.Common.{◌≡◌, ℕ, ◌+◌, ◌<◌, ◌≤◌, List, [], ◌∷◌, ◌++◌, length, take, drop, sym, refl, ap, ◌∙◌, append_assoc, append-nil, subst, ◌⊎◌, ⊎_elim, arith, length-append, length-drop}
+use Rattle.std.proofs.Common.{◌≡◌, ℕ, ◌+◌, ◌<◌, ◌≤◌, List, [], ◌∷◌, ◌++◌, length, take, drop, sym, refl, ap, ◌∙◌, append_assoc, append-nil, subst, ◌⊎◌, ⊎_elim, arith, length-append}
 use Rattle.std.proofs.lemmas.List.{drop-drop, take_at, drop_at}
 use Rattle.big_endian.specs.BigEndian.{bytes_of, over}
 use Rattle.big_endian.proofs.Numbers.{length-bytes_of, bytes1}
@@ -28,9 +28,6 @@ total_push [] w = omega arith
 total_push (x ∷ ws) w = omega (arith, total_push ws w)
 
 module _ {old ws vs s : List ℕ} (f : Filled old ws vs s) where
-  length_filled : total ws ≤ length old → length s ≡ length old
-  length_filled h = ap length f.holds ∙ simp length-append (omega (arith, f.long, length-drop (total ws) old))
-
   -- a field more
   pub more : (w v : ℕ) {t : List ℕ} → total ws + w ≤ length old → t ≡ over (bytes_of w v) (total ws) s → Filled old (ws ++ w ∷ []) (vs ++ v ∷ []) t
   more w v {t} h e =

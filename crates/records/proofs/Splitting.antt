@@ -1,5 +1,5 @@
 -- No record's bytes begin another's, so that a file splits in one way.
-use Rattle.std.proofs.Common.{◌≡◌, ℕ, ◌+◌, ◌≤◌, cond, eqb, List, ◌++◌, length, get_or, drop, sym, refl, ap, ◌∙◌, subst, arith, drop-cons}
+use Rattle.std.proofs.Common.{◌≡◌, ℕ, ◌+◌, cond, eqb, List, ◌++◌, length, get_or, drop, sym, refl, ap, ◌∙◌, subst, arith, drop-cons}
 use Rattle.layout.specs.declared.kind.Kind.{Kind}
 use Rattle.layout.specs.declared.kind.Kind.TheVariants.{Opening, Fund, Draw, Submit, Activate, Withdraw, Reprioritise, Run, Show, Close}
 use Rattle.layout.specs.declared.fault.ReadFault.TheVariants.{UnknownLetter, CutBody}
@@ -54,7 +54,3 @@ none_stands s at (CutBody place) h p next st =
     let cut = h.cut refl in
     let same : cut.0 ≡ p.kind = same_kind _ _ (cut.1 ∙ sym (letter_at s at p next st)) in
     omega (arith, cut.2, ap body_of same, length-packed (widths p.kind) p.values st.sound, st.after, st.within)
-
--- nor does one at or past the end
-pub none_past : (s : List ℕ) (at : ℕ) → length s ≤ at → (p : Plain) (next : ℕ) → Stands s at p next → ⊥
-none_past s at h p next st = omega (arith, st.after, st.within)

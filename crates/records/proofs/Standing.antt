@@ -1,8 +1,9 @@
 -- What the bytes at a place of a file say.
-use Rattle.std.proofs.Common.{◌≡◌, ℕ, ◌+◌, ◌<◌, ◌≤◌, List, ◌∷◌, ◌++◌, length, get_or, take, drop, IfSome, Some, None, Option, sym, ap, ◌∙◌, subst, add-one, arith, length-drop, take-append-drop, drop-cons, Bor}
+use Rattle.std.proofs.Common.{◌≡◌, ℕ, ◌+◌, ◌<◌, ◌≤◌, List, ◌∷◌, ◌++◌, length, get_or, take, drop, sym, ap, ◌∙◌, subst, add-one, arith, length-drop, take-append-drop, drop-cons, Bor}
 use Rattle.std.specs.Int.Digits.{AllBelowBase}
 use Rattle.std.proofs.ByRecursion.{All-drop}
 use Rattle.std.proofs.lemmas.List.{drop-drop}
+use Rattle.std.proofs.lemmas.Option.{IfSome_then}
 use Rattle.layout.specs.declared.kind.Kind.{Kind}
 use Rattle.layout.specs.Layout.{letter_of, widths, body_of}
 use Rattle.layout.specs.declared.record.Record.{Record}
@@ -27,15 +28,11 @@ stands s at k {p} {next} bytes h letter says end long =
     } in
     subst (λ (q : Plain). Stands s at q next) (sym says) (subst (Stands s at (parsed k rest)) (sym end) here)
 
-found_weaker : {A : Type 0} (o : Option A) (P Q : A → Type 0) → ((x : A) → P x → Q x) → IfSome o P → IfSome o Q
-found_weaker None P Q f h = tt
-found_weaker (Some x) P Q f h = f x h
-
 -- what is lent from the rest of a file is lent from the file
 pub lent_rest : (file : Bor (List ℕ)) (n m place : ℕ) (w : Record) {rest : List ℕ} → n + m ≡ place → rest ≡ drop n file.now → Lent (record { ref_ptr = address file n; now = rest }) m w → Lent file place w
 lent_rest file n m place w sum is h =
     let shifted : m + (n + file.ref_ptr.1) ≡ place + file.ref_ptr.1 = omega arith in
-    found_weaker (reference_of w) _ _ (λ x l. (
+    IfSome_then (reference_of w) h (λ x l. (
       l.0 ∙ ap (λ s. take 8 (drop m s)) is ∙ ap (take 8) (drop-drop m n file.now) ∙ ap (λ k. take 8 (drop k file.now)) sum,
       l.1 ∙ (λ i. (file.ref_ptr.0, shifted i)),
-    )) h
+    ))
