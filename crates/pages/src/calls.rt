@@ -51,7 +51,7 @@ impl Page {
     /// The page of these bytes. Bytes that `check_page` refuses make a page of no accounts, and are kept.
     pub fn new(bytes: Vec<u8>) -> Page
         ensures page { Keeps bytes.items result }
-        ensures standing { Low (figures_in result) }
+        ensures low { Low (figures_in result) }
     {
         let accounts = check_page(&bytes).unwrap_or(0);
         Page { bytes, accounts }

@@ -1,10 +1,12 @@
 -- What a row of figures means, place by place.
-use Rattle.std.proofs.Common.{◌≡◌, ℕ, ◌+◌, ◌-◌, ◌^◌, ◌<◌, ◌≤◌, ◌≢◌, List, Some, length, get_or, set, slice_get, sym, ap, ◌∙◌, subst, ⊎_elim, arith}
+use Rattle.std.proofs.Common.{◌≡◌, ℕ, ◌+◌, ◌-◌, ◌^◌, ◌<◌, ◌≤◌, ◌≢◌, List, Some, Ok, min, length, get_or, set, slice_get, sym, ap, ◌∙◌, subst, ⊎_elim, arith}
 use Rattle.std.proofs.lemmas.List.{length-map, get_or-map, map-set, get_or-set_same, get_or-set_other}
-use Rattle.std.proofs.lemmas.Option.{slice_get_within, get_or_from_slice_get}
+use Rattle.std.proofs.lemmas.Option.{get_or_from_slice_get}
 use Rattle.std.proofs.lemmas.Bool.{cases_eq}
-use Rattle.book.specs.Figures.{figures, none, sendable_at, open_at, after_take, after_put}
+use Rattle.book.specs.Figures.{figures, none, sendable_at, open_at}
+use Rattle.book.specs.Moves.{Fits, Taken, Put}
 use Rattle.book.proofs.Figures.{same}
+use Rattle.book.proofs.Moves.{fits_in}
 use Rattle.rows.specs.Rows.{table_means, Low}
 
 pub length_table : (ns : List ℕ) → length (table_means ns) ≡ length ns
@@ -16,27 +18,36 @@ pub record Stands (ns : List ℕ) (a : ℕ) : Type 0 where
   pub left : open_at (table_means ns) a ≡ 10 ^ 16 - get_or ns a 0
   pub most : get_or ns a 0 ≤ 10 ^ 16
 
-pub stands : (ns : List ℕ) (a : ℕ) → Low ns → a < length ns → Stands ns a
+stands : (ns : List ℕ) (a : ℕ) → Low ns → a < length ns → Stands ns a
 stands ns a low h =
     let at = get_or-map (λ n. figures n (10 ^ 16 - n)) ns a 0 none h in
     record { sent = ap (λ f. f.sendable) at; left = ap (λ f. f.«open») at; most = low a }
 
--- a row with the figure n at place a, and one with another figure there
-module _ (ns ms : List ℕ) (a n y : ℕ) (low : Low ns) (found : slice_get ns a ≡ Some n) (wrote : ms ≡ set ns a y) where
-  here : Stands ns a
-  here = stands ns a low (slice_get_within ns a n found)
+-- what may still be sent tells what may still come in
+pub left_by : (ns : List ℕ) (a n : ℕ) → Low ns → (a < length (table_means ns)) × (n ≡ min (sendable_at (table_means ns) a) (10 ^ 18)) → (n ≤ 10 ^ 16) × (open_at (table_means ns) a ≡ 10 ^ 16 - n)
+left_by ns a n low told =
+    let s = stands ns a low (omega (arith, length_table ns)) in
+    (omega arith, omega arith)
 
+-- a row with the figure n at place a, and one with the figure y there
+module _ (ns ms : List ℕ) (a n y : ℕ) (low : Low ns) (found : slice_get ns a ≡ Some n) (wrote : ms ≡ set ns a y) where
   there : n ≡ get_or ns a 0
   there = sym (get_or_from_slice_get ns a n 0 found)
 
-  means : table_means ms ≡ set (table_means ns) a (figures y (10 ^ 16 - y))
-  means = ap table_means wrote ∙ map-set _ ns a y
+  means : (x o : ℕ) → y ≡ x → 10 ^ 16 - y ≡ o → table_means ms ≡ set (table_means ns) a (figures x o)
+  means x o e f = ap table_means wrote ∙ map-set _ ns a y ∙ ap (set (table_means ns) a) (same e f)
 
-  pub took : (s : ℕ) → y ≡ n - s → s ≤ n → (s ≤ sendable_at (table_means ns) a) × (table_means ms ≡ after_take (table_means ns) a s)
-  took s e le = let h = here in let t = there in (omega arith, means ∙ ap (set (table_means ns) a) (same (omega arith) (omega arith)))
+  pub took : (count s : ℕ) → count ≡ length ns → Fits count a s → y ≡ n - s → s ≤ n → Taken (table_means ns) a s (Ok tt) (table_means ms)
+  took count s many fits e le =
+      let at = stands ns a low (omega arith) in
+      let is = there in
+      (fits_in (many ∙ sym (length_table ns)) fits, omega arith, means _ _ (omega arith) (omega arith))
 
-  pub gave : (s : ℕ) → y ≡ n + s → s ≤ 10 ^ 16 - n → (s ≤ open_at (table_means ns) a) × (table_means ms ≡ after_put (table_means ns) a s)
-  gave s e le = let h = here in let t = there in (omega arith, means ∙ ap (set (table_means ns) a) (same (omega arith) (omega arith)))
+  pub gave : (count s : ℕ) → count ≡ length ns → Fits count a s → y ≡ n + s → s ≤ 10 ^ 16 - n → Put (table_means ns) a s (Ok tt) (table_means ms)
+  gave count s many fits e le =
+      let at = stands ns a low (omega arith) in
+      let is = there in
+      (fits_in (many ∙ sym (length_table ns)) fits, omega arith, means _ _ (omega arith) (omega arith))
 
 pub low_set : (ns : List ℕ) (a y : ℕ) → Low ns → a < length ns → y ≤ 10 ^ 16 → Low (set ns a y)
 low_set ns a y low h le k =

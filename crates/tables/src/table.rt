@@ -37,7 +37,7 @@ impl Table {
     /// The table of this row. A row that `check_row` refuses makes a table of no figures.
     pub fn new(mut row: Vec<u64>) -> Table
         ensures row { Keeps row.items result.row.items }
-        ensures standing { Low result.row.items }
+        ensures low { Low result.row.items }
     {
         if check_row(&row).is_err() {
             row.clear();
