@@ -49,6 +49,7 @@ pub fn check_page(page: &[u8]) -> Result<usize, PageFault>
 
 impl Page {
     /// The page of these bytes. Bytes that `check_page` refuses make a page of no accounts, and are kept.
+    #[tactic(auto, using(crate::proofs::Pages::kept))]
     pub fn new(bytes: Vec<u8>) -> Page
         ensures page { Keeps bytes.items result }
         ensures low { Low (figures_in result) }
@@ -65,7 +66,7 @@ impl Page {
     }
 }
 
-#[tactic(auto, using(crate::specs::Lengths::length_figures))]
+#[tactic(auto, using(crate::specs::Lengths::length_figures, std::proofs::lemmas::Option::slice_get_past))]
 impl Row for Page {
     ghost figures = { λ p. figures_in p };
 

@@ -1,5 +1,5 @@
 -- What a row of figures means, place by place.
-use Rattle.std.proofs.Common.{◌≡◌, ℕ, ◌+◌, ◌-◌, ◌^◌, ◌<◌, ◌≤◌, ◌≢◌, List, Some, Ok, min, length, get_or, set, slice_get, sym, ap, ◌∙◌, subst, ⊎_elim, arith}
+use Rattle.std.proofs.Common.{◌≡◌, ℕ, ◌+◌, ◌-◌, ◌^◌, ◌<◌, ◌≤◌, ◌≢◌, List, Some, Ok, length, get_or, set, slice_get, sym, ap, ◌∙◌, subst, ⊎_elim, arith}
 use Rattle.std.proofs.lemmas.List.{length-map, get_or-map, map-set, get_or-set_same, get_or-set_other}
 use Rattle.std.proofs.lemmas.Option.{get_or_from_slice_get}
 use Rattle.std.proofs.lemmas.Bool.{cases_eq}
@@ -23,11 +23,12 @@ stands ns a low h =
     let at = get_or-map (λ n. figures n (10 ^ 16 - n)) ns a 0 none h in
     record { sent = ap (λ f. f.sendable) at; left = ap (λ f. f.«open») at; most = low a }
 
--- what may still be sent tells what may still come in
-pub left_by : (ns : List ℕ) (a n : ℕ) → Low ns → (a < length (table_means ns)) × (n ≡ min (sendable_at (table_means ns) a) (10 ^ 18)) → (n ≤ 10 ^ 16) × (open_at (table_means ns) a ≡ 10 ^ 16 - n)
-left_by ns a n low told =
-    let s = stands ns a low (omega (arith, length_table ns)) in
-    (omega arith, omega arith)
+-- what may still be sent, and what may still come in, make up 10^16
+pub sent_most : (ns : List ℕ) (a : ℕ) → Low ns → a < length (table_means ns) → sendable_at (table_means ns) a ≤ 10 ^ 16
+sent_most ns a low h = let s = stands ns a low (omega (arith, length_table ns)) in omega arith
+
+pub left_is : (ns : List ℕ) (a : ℕ) → Low ns → a < length (table_means ns) → open_at (table_means ns) a ≡ 10 ^ 16 - sendable_at (table_means ns) a
+left_is ns a low h = let s = stands ns a low (omega (arith, length_table ns)) in omega arith
 
 -- a row with the figure n at place a, and one with the figure y there
 module _ (ns ms : List ℕ) (a n y : ℕ) (low : Low ns) (found : slice_get ns a ≡ Some n) (wrote : ms ≡ set ns a y) where

@@ -31,6 +31,7 @@ impl<R: Row> FigureBook<R> {
 }
 
 // Take and put are two functions, and so are the two questions: one for both would hide which way money goes.
+#[tactic(auto, using(std::proofs::lemmas::Option::get_or_from_slice_get))]
 impl<R: Row> Book for FigureBook<R> {
     ghost means = { λ b. means_of R.Row b };
 
@@ -48,6 +49,7 @@ impl<R: Row> Book for FigureBook<R> {
             .ok_or(Reason::NoAccount.at(account, 0))
     }
 
+    #[tactic(auto, using(crate::proofs::Rows::sent_most, crate::proofs::Rows::left_is))]
     fn ask_open(&self, account: usize) -> Result<u64, BookFault> {
         let figure = self.ask_sendable(account)?;
         Ok(LARGEST_FIGURE - figure)
