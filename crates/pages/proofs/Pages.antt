@@ -6,7 +6,7 @@ use Rattle.std.specs.Int.Digits.{AllBelowBase}
 use Rattle.std.proofs.ByRecursion.{All-from_get_or}
 use Rattle.std.proofs.lemmas.List.{drop-take, take-take, get_or-take, get_or-drop, get_or_past, get_or-append-add, with_items_is}
 use Rattle.std.proofs.lemmas.Bool.{cases_lt}
-use Rattle.std.proofs.lemmas.Option.{slice_get-get_or}
+use Rattle.std.proofs.lemmas.Option.{slice_get_past, slice_get-get_or}
 use Rattle.std.specs.Simd.{first_chunks}
 use Rattle.std.specs.Vec.{with_items}
 use Rattle.std.specs.Result.{result_unwrap_or}
@@ -191,3 +191,6 @@ write_in b a x s ws r h le e l w =
     let fits : 9 * a + 1 + length (bytes_of 8 x) ≤ length s = omega (arith, long k p b.formed, length-bytes_of 8 x, ap length e) in
     let bytes = with_items_is b.bytes ws l ∙ wrote (bytes_of 8 x) s ws (9 * a + 1) r fits w ∙ ap (over (bytes_of 8 x) (9 * a + 1)) e in
     (bytes, formed_write k a x p q b.formed h le bytes, figures_write k a x p q b.formed h le bytes)
+
+-- what makes a page a row of figures
+pub ruleset as_a_row = (length_figures, slice_get_past, figure_read, write_in)

@@ -66,7 +66,7 @@ impl Page {
     }
 }
 
-#[tactic(auto, using(crate::specs::Lengths::length_figures, std::proofs::lemmas::Option::slice_get_past))]
+#[tactic(auto, using(crate::proofs::Pages::as_a_row))]
 impl Row for Page {
     ghost figures = { λ p. figures_in p };
 
