@@ -1,5 +1,5 @@
 -- What each call of a book answers, the refusals in their order, and what it leaves.
-use Rattle.std.specs.Prelude.{◌≡◌, ℕ, ◌^◌, ◌<◌, ◌≤◌, min, ◌⊎◌, List, length, Ok, Err, Result}
+use Rattle.std.specs.Prelude.{◌≡◌, ℕ, ◌^◌, ◌<◌, ◌≤◌, min, ◌⊎◌, List, length, Ok, Err, OnErr, Result}
 use Rattle.book.specs.declared.fault.BookFault.{BookFault}
 use Rattle.book.specs.Figures.{Figures, sendable_at, open_at, after_take, after_put}
 use Rattle.book.specs.Faults.{Names}
@@ -46,3 +46,9 @@ Taken m a s (Err f) after = Refuses (length m) a s 6 (sendable_at m a) f × (aft
 abbrev pub Put : List Figures → ℕ → ℕ → Result (Unit {0}) BookFault → List Figures → Type 0
 Put m a s (Ok u) after = Fits (length m) a s × (s ≤ open_at m a) × (after ≡ after_put m a s)
 Put m a s (Err f) after = Refuses (length m) a s 7 (open_at m a) f × (after ≡ m)
+
+-- what every move keeps: the number of accounts, the very same book after a refusal, and the standing rule
+pub record MoveKeeps {B : Type 0} (means : B → List Figures) (stands : B → Type 0) (old : B) (r : Result (Unit {0}) BookFault) (new : B) : Type 0 where
+  pub count : length (means new) ≡ length (means old)
+  pub same : OnErr r (new ≡ old)
+  pub standing : stands old → stands new

@@ -1,7 +1,7 @@
 //! What every book offers.
-ghost use Rattle.std.specs.Prelude.{◌≡◌, ℕ, ◌≤◌, List, length, OnErr};
+ghost use Rattle.std.specs.Prelude.{◌≡◌, ℕ, ◌≤◌, List, length};
 ghost use Rattle.book.specs.Figures.{Figures, sendable_at, open_at};
-ghost use Rattle.book.specs.Moves.{Answers, Taken, Put};
+ghost use Rattle.book.specs.Moves.{Answers, Taken, Put, MoveKeeps};
 
 use crate::fault::BookFault;
 
@@ -32,17 +32,13 @@ pub trait Book {
     /// sendable; the book is then the same value as before.
     fn take(&mut self, account: usize, sum: u64) -> Result<(), BookFault>
         ensures answer { Taken (means self.old) account sum result (means self.new) }
-        ensures count { length (means self.new) ≡ length (means self.old) }
-        ensures same { OnErr result (self.new ≡ self.old) }
-        ensures standing { standing self.old → standing self.new };
+        ensures keeps { MoveKeeps means standing self.old result self.new };
 
     /// Lets the sum into the account: sendable rises by it, and open falls. It refuses 1, 2, and 7 for a sum above open;
     /// the book is then the same value as before.
     fn put(&mut self, account: usize, sum: u64) -> Result<(), BookFault>
         ensures answer { Put (means self.old) account sum result (means self.new) }
-        ensures count { length (means self.new) ≡ length (means self.old) }
-        ensures same { OnErr result (self.new ≡ self.old) }
-        ensures standing { standing self.old → standing self.new };
+        ensures keeps { MoveKeeps means standing self.old result self.new };
 
     ghost few: { (b : Self) → length (means b) ≤ 16 };
 }

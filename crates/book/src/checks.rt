@@ -9,11 +9,7 @@ pub fn check_account(accounts: usize, account: usize) -> Result<(), BookFault>
     ensures answer { CheckedAccount accounts account result }
 {
     if account >= accounts {
-        return Err(BookFault {
-            account,
-            sum: 0,
-            reason: Reason::NoAccount,
-        });
+        return Err(Reason::NoAccount.at(account, 0));
     }
     Ok(())
 }
@@ -24,18 +20,10 @@ pub fn check_move(accounts: usize, account: usize, sum: u64) -> Result<(), BookF
     ensures answer { Checked accounts account sum result }
 {
     if account >= accounts {
-        return Err(BookFault {
-            account,
-            sum,
-            reason: Reason::NoAccount,
-        });
+        return Err(Reason::NoAccount.at(account, sum));
     }
     if sum == 0 || sum > LARGEST_SUM {
-        return Err(BookFault {
-            account,
-            sum,
-            reason: Reason::BadSum,
-        });
+        return Err(Reason::BadSum.at(account, sum));
     }
     Ok(())
 }

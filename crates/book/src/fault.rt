@@ -23,6 +23,19 @@ pub enum Reason {
     AboveOpen,
 }
 
+impl Reason {
+    /// The refusal for this reason of a call that named this account and sum.
+    pub fn at(self, account: usize, sum: u64) -> BookFault
+        ensures value { result ≡ record { account = account; sum = sum; reason = self } }
+    {
+        BookFault {
+            account,
+            sum,
+            reason: self,
+        }
+    }
+}
+
 impl BookFault {
     /// The number of the refusal.
     pub fn number(self) -> u8

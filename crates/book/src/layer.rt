@@ -8,10 +8,5 @@ use crate::limits::{LARGEST_LIMIT, MOST_ACCOUNTS};
 pub fn capped(row: &[u64]) -> [u64; MOST_ACCOUNTS]
     ensures value { Capped row.now result }
 {
-    let mut numbers = [0; MOST_ACCOUNTS];
-    let count = row.len().min(MOST_ACCOUNTS);
-    for k in 0..count {
-        numbers[k] = row[k].min(LARGEST_LIMIT);
-    }
-    numbers
+    std::array::from_fn(|k| row.get(k).copied().unwrap_or(0).min(LARGEST_LIMIT))
 }

@@ -1,6 +1,7 @@
-//! What a book is, and the books that hold figures: over a row, and over a page of bytes.
+//! What a book is, and the book over any row of figures: over a list, and over a page of bytes.
 #![tactic(auto)]
 
 pub use book::{Book, BookFault, Reason};
-pub use pages::{PageBook, PageFault, check_page};
-pub use tables::{RowFault, TableBook, check_row};
+pub use pages::{Page, PageBook, PageFault, check_page};
+pub use rows::{FigureBook, NotWritten, Row};
+pub use tables::{RowFault, Table, TableBook, check_row};

@@ -1,5 +1,5 @@
 //! A page under a stack, pages that make no book, and rows of limits of another length.
-use books::{Book, BookFault, PageBook, PageFault, Reason, check_page};
+use books::{Book, BookFault, Page, PageBook, PageFault, Reason, check_page};
 use layers::{CreditBook, RoomBook};
 use std::test::Fail;
 
@@ -11,7 +11,7 @@ const PAGE: [u8; 18] = [
 #[test]
 fn a_take_goes_through_room_and_credit_to_the_page(rt: HostRuntime) -> Result<(), Fail> {
     let page = PAGE.to_vec(rt.alloc())?;
-    let lending = CreditBook::new(PageBook::new(page), &[50]);
+    let lending = CreditBook::new(PageBook::over(Page::new(page)), &[50]);
     let mut book = RoomBook::new(lending, &[1_000]);
     assert_eq!(rt; book.ask_sendable(0), Ok(309));
     assert_eq!(rt; book.ask_sendable(1), Ok(0));
@@ -26,7 +26,7 @@ fn a_take_goes_through_room_and_credit_to_the_page(rt: HostRuntime) -> Result<()
     );
     let mut after = PAGE;
     after[8] = 1;
-    assert_eq!(rt; book.below().below().page(), after.as_slice());
+    assert_eq!(rt; book.below().below().row().bytes(), after.as_slice());
     Ok(())
 }
 
@@ -58,8 +58,8 @@ fn a_page_is_checked_from_its_first_record(rt: HostRuntime) {
 
 #[test]
 fn a_page_that_makes_no_book_has_no_accounts(rt: HostRuntime) -> Result<(), Fail> {
-    let book = PageBook::new(PAGE[0..10].to_vec(rt.alloc())?);
+    let book = PageBook::over(Page::new(PAGE[0..10].to_vec(rt.alloc())?));
     assert_eq!(rt; book.count(), 0);
-    assert_eq!(rt; book.page(), &PAGE[0..10]);
+    assert_eq!(rt; book.row().bytes(), &PAGE[0..10]);
     Ok(())
 }

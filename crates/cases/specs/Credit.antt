@@ -4,7 +4,7 @@ use Rattle.book.specs.declared.fault.BookFault.{BookFault}
 use Rattle.book.specs.Faults.{Names}
 use Rattle.book.specs.Moves.{Taken, Put}
 use Rattle.book.specs.Layers.{Leaves}
-use Rattle.tables.specs.Rows.{table_means}
+use Rattle.rows.specs.Rows.{table_means}
 use Rattle.credit.specs.Credits.{Credit, credit_means, lend, repay}
 use Rattle.cases.specs.Sure.{Only, above}
 

@@ -5,7 +5,7 @@ use Rattle.book.specs.Faults.{Names}
 use Rattle.book.specs.Figures.{sendable_at}
 use Rattle.book.specs.Moves.{Taken, Put}
 use Rattle.book.specs.Layers.{Leaves}
-use Rattle.tables.specs.Rows.{table_means}
+use Rattle.rows.specs.Rows.{table_means}
 use Rattle.rooms.specs.Rooms.{Rooms, room_means, spend, regain}
 use Rattle.cases.specs.Sure.{Only, above}
 

@@ -1,25 +1,27 @@
 -- What the records of a page hold, and what a write to one of them leaves.
-use Rattle.std.specs.Prelude.{◌≡◌, ℕ, zero, suc, ◌+◌, ◌*◌, ◌^◌, ◌<◌, ◌≤◌, List, [], ◌∷◌, ◌++◌, length, take, drop, Ok, Err, vec_items, vec_len, Result, slice_index, slice_set, refl}
-use Rattle.std.proofs.Common.{sym, ap, subst, ◌∙◌, append_assoc, ⊎_elim, inl, inr, arith, add_assoc, length-set, length-append, length-drop, length-take, take-append-drop, length-take-le, take-add, take_at, drop_at, drop-drop}
+use Rattle.std.specs.Prelude.{◌≡◌, ℕ, zero, suc, ◌+◌, ◌*◌, ◌^◌, ◌<◌, ◌≤◌, List, [], ◌∷◌, ◌++◌, length, take, drop, Some, None, Option, Ok, Err, vec_items, vec_len, Result, slice_index, slice_get, slice_set, refl}
+use Rattle.std.proofs.Common.{get_or, sym, ap, subst, ◌∙◌, append_assoc, ⊎_elim, inl, inr, arith, add_assoc, length-set, length-append, length-drop, length-take, take-append-drop, length-take-le, take-add, take_at, drop_at, drop-drop}
 use Rattle.std.proofs.Math.Seq.{take-append-add, drop-append-add}
 use Rattle.std.specs.Int.Digits.{AllBelowBase}
 use Rattle.std.proofs.ByRecursion.{All-from_get_or}
-use Rattle.std.proofs.lemmas.List.{get_or-take, get_or-drop, get_or_past, get_or-append-add, with_items_is}
+use Rattle.std.proofs.lemmas.List.{drop-take, take-take, get_or-take, get_or-drop, get_or_past, get_or-append-add, with_items_is}
 use Rattle.std.proofs.lemmas.Bool.{cases_lt}
+use Rattle.std.proofs.lemmas.Option.{slice_get_past, slice_get-get_or}
+use Rattle.std.specs.Simd.{first_chunks}
 use Rattle.std.specs.Vec.{with_items}
-use Rattle.std.specs.Result.{result_unwrap_or}
-use Rattle.big_endian.specs.BigEndian.{bytes_of, number_of, over, Writes}
+use Rattle.std.specs.Result.{IsOk, result_unwrap_or}
+use Rattle.big_endian.specs.BigEndian.{bytes_of, number_of, over, Reads, Writes}
 use Rattle.big_endian.specs.declared.NoRoom.{NoRoom}
-use Rattle.big_endian.proofs.Writing.{wrote}
+use Rattle.big_endian.proofs.Writing.{wrote, wrote_number}
 use Rattle.big_endian.proofs.Numbers.{length-bytes_of, reads_back, writes_back}
-use Rattle.tables.specs.Rows.{Low}
-use Rattle.tables.proofs.Tables.{length_table, low_set, Stands, stands}
+use Rattle.rows.specs.Rows.{Low}
+use Rattle.rows.proofs.Rows.{low_set}
 use Rattle.pages.specs.declared.fault.PageFault.{PageFault}
-use Rattle.pages.specs.declared.PageBook.{PageBook}
+use Rattle.pages.specs.declared.Page.{Page}
 use Rattle.pages.specs.Faults.{page_number}
 use Rattle.pages.specs.Pages.{page_of, figures_of, letter_at, figure_at, Formed, Sized, GoodPage, RecordChecked, PageChecked, PageRefuses, RefusesLength, RefusesLetter, RefusesFigure}
 use Rattle.pages.specs.Lengths.{length_figures}
-use Rattle.pages.specs.Books.{bytes_in, figures_in, means_of}
+use Rattle.pages.specs.Books.{bytes_in, figures_in}
 
 pub length_page : (ns : List ℕ) → length (page_of ns) ≡ 9 * length ns
 length_page [] = refl
@@ -32,6 +34,24 @@ figures_at (suc k) zero p h = refl
 figures_at (suc k) (suc a) p h =
     let e : 9 + (9 * a + 1) ≡ 9 * suc a + 1 = omega arith in
     figures_at k a (drop 9 p) (omega arith) ∙ ap (λ d. number_of (take 8 d)) (drop-drop (9 * a + 1) 9 p ∙ ap (λ n. drop n p) e)
+
+-- the record of account a stands at its place
+record_at : (k a : ℕ) (p : List ℕ) → a < k → get_or (first_chunks 9 k p) a [] ≡ take 9 (drop (9 * a) p)
+record_at zero a p h = absurd (omega arith)
+record_at (suc k) zero p h = refl
+record_at (suc k) (suc a) p h =
+    let e : 9 + 9 * a ≡ 9 * suc a = omega arith in
+    record_at k a (drop 9 p) (omega arith) ∙ ap (take 9) (drop-drop (9 * a) 9 p ∙ ap (λ n. drop n p) e)
+
+-- what a check of the record tells, it tells of the page
+pub told : (k a : ℕ) (p : List ℕ) (rs : List (List ℕ)) (r : Result (Unit {0}) PageFault) → rs ≡ first_chunks 9 k p → a < k → RecordChecked (letter_at (get_or rs a []) 0) (figure_at (get_or rs a []) 0) a r → RecordChecked (letter_at p a) (figure_at p a) a r
+told k a p rs r e h w =
+    let own = take 9 (drop (9 * a) p) in
+    let is = ap (λ cs. get_or cs a []) e ∙ record_at k a p h in
+    let letter : letter_at own 0 ≡ letter_at p a = get_or-take 9 (drop (9 * a) p) 0 0 (omega arith) ∙ get_or-drop (9 * a) p 0 0 ∙ ap (slice_index p) (omega arith) in
+    let figure : figure_at own 0 ≡ figure_at p a = ap (λ t. number_of (take 8 t)) (drop-take 1 8 (drop (9 * a) p)) ∙ ap number_of (take-take 8 8 (drop 1 (drop (9 * a) p)) (omega arith)) ∙ ap (λ t. number_of (take 8 t)) (drop-drop 1 (9 * a) p) in
+    let here = subst (λ c. RecordChecked (letter_at c 0) (figure_at c 0) a r) is w in
+    subst (λ l. RecordChecked l (figure_at p a) a r) letter (subst (λ n. RecordChecked (letter_at own 0) n a r) figure here)
 
 -- a page gives its figures back
 pub figures_page : (ns rest : List ℕ) → Low ns → figures_of (length ns) (page_of ns ++ rest) ≡ ns
@@ -71,6 +91,13 @@ whole k p f = sym (take-append-drop (9 * k) p) ∙ ap (λ t. t ++ drop (9 * k) p
 -- it has all the bytes of its records
 pub long : (k : ℕ) (p : List ℕ) → Formed k p → 9 * k ≤ length p
 long k p f = omega (arith, ap length f.1, length-take (9 * k) p, length_page (figures_of k p), length_figures k p)
+
+-- what a read of a figure answers
+pub figure_read : (b : Page) (a : ℕ) (s : List ℕ) (r : Option ℕ) → a < b.accounts → s ≡ bytes_in b → Reads 8 s (9 * a + 1) r → r ≡ slice_get (figures_in b) a
+figure_read b a s None h e w = absurd (omega (arith, w, long b.accounts (bytes_in b) b.formed, ap length e))
+figure_read b a s (Some n) h e w =
+    ap Some (w.1 ∙ ap (λ t. figure_at t a) e ∙ sym (figures_at b.accounts a (bytes_in b) h))
+    ∙ sym (slice_get-get_or (figures_in b) a 0 (omega (arith, length_figures b.accounts (bytes_in b))))
 
 -- each of its records begins with the letter
 letters_page : (ns rest : List ℕ) (a : ℕ) → a < length ns → letter_at (page_of ns ++ rest) a ≡ 80
@@ -126,7 +153,7 @@ formed_by k p few h small each = (
 )
 
 -- the first record that is not well formed refuses the page
-pub refuses_record : (n a : ℕ) (p : List ℕ) (f : PageFault) → Sized n p → a < n → ((i : ℕ) → slice_index p i < 256) → ((j : ℕ) → j < a → (letter_at p j ≡ 80) × (figure_at p j ≤ 10 ^ 16)) → RecordChecked p a (Err f) → PageRefuses p f
+pub refuses_record : (n a : ℕ) (p : List ℕ) (f : PageFault) → Sized n p → a < n → ((i : ℕ) → slice_index p i < 256) → ((j : ℕ) → j < a → (letter_at p j ≡ 80) × (figure_at p j ≤ 10 ^ 16)) → RecordChecked (letter_at p a) (figure_at p a) a (Err f) → PageRefuses p f
 refuses_record n a p f sized here small each bad =
     let before = formed_by a p (omega arith) (omega arith) small each in
     inr (⊎_elim
@@ -149,24 +176,22 @@ pub kept : (p : List ℕ) (r : Result ℕ PageFault) → PageChecked p r → ((k
 kept p (Ok k) g = ((λ j o. omega (arith, o.sized.bytes, g.sized.bytes)), (λ no. absurd (no k g)), g.formed)
 kept p (Err f) e = ((λ j g. absurd (not_both p f j e g)), (λ no. refl), (omega arith, refl, λ j. omega arith))
 
+-- there is room for the figure of an account
+pub has_room : (b : Page) (a x : ℕ) (s ws : List ℕ) (r : Result (Unit {0}) NoRoom) → a < b.accounts → s ≡ bytes_in b → Writes (bytes_of 8 x) (9 * a + 1) s ws r → IsOk r
+has_room b a x s ws r h e w = (wrote_number 8 x s ws (9 * a + 1) r (omega (arith, long b.accounts (bytes_in b) b.formed, ap length e)) w).0
+
 -- what the write of a figure leaves
-pub write_in : (b : PageBook) (a x : ℕ) (s ws : List ℕ) (r : Result (Unit {0}) NoRoom) → a < b.accounts → x ≤ 10 ^ 16 → s ≡ bytes_in b → length ws ≡ vec_len b.page → Writes (bytes_of 8 x) (9 * a + 1) s ws r →
-    (vec_items (with_items b.page ws) ≡ over (bytes_of 8 x) (9 * a + 1) (bytes_in b))
-    × Formed b.accounts (vec_items (with_items b.page ws))
-    × (figures_of b.accounts (vec_items (with_items b.page ws)) ≡ slice_set (figures_in b) a x)
+pub write_in : (b : Page) (a x : ℕ) (s ws : List ℕ) (r : Result (Unit {0}) NoRoom) → a < b.accounts → x ≤ 10 ^ 16 → s ≡ bytes_in b → length ws ≡ vec_len b.bytes → Writes (bytes_of 8 x) (9 * a + 1) s ws r →
+    (vec_items (with_items b.bytes ws) ≡ over (bytes_of 8 x) (9 * a + 1) (bytes_in b))
+    × Formed b.accounts (vec_items (with_items b.bytes ws))
+    × (figures_of b.accounts (vec_items (with_items b.bytes ws)) ≡ slice_set (figures_in b) a x)
 write_in b a x s ws r h le e l w =
     let k = b.accounts in
     let p = bytes_in b in
-    let q = vec_items (with_items b.page ws) in
+    let q = vec_items (with_items b.bytes ws) in
     let fits : 9 * a + 1 + length (bytes_of 8 x) ≤ length s = omega (arith, long k p b.formed, length-bytes_of 8 x, ap length e) in
-    let bytes = with_items_is b.page ws l ∙ (wrote (bytes_of 8 x) s ws (9 * a + 1) r fits w).1 ∙ ap (over (bytes_of 8 x) (9 * a + 1)) e in
+    let bytes = with_items_is b.bytes ws l ∙ (wrote (bytes_of 8 x) s ws (9 * a + 1) r fits w).1 ∙ ap (over (bytes_of 8 x) (9 * a + 1)) e in
     (bytes, formed_write k a x p q b.formed h le bytes, figures_write k a x p q b.formed h le bytes)
 
--- the number of accounts is that of the meaning
-pub counted : (b : PageBook) → b.accounts ≡ length (means_of b)
-counted b = sym (length_table (figures_in b) ∙ length_figures b.accounts (bytes_in b))
-
--- what stands at an account
-pub stands_in : (b : PageBook) (a x : ℕ) → a < b.accounts → x ≡ slice_index (figures_in b) a → Stands (figures_in b) a x
-stands_in b a x h e =
-    stands (figures_in b) a x b.formed.2 (omega (arith, length_figures b.accounts (bytes_in b))) e
+-- what makes a page a row of figures
+pub ruleset as_a_row = (length_figures, slice_get_past, figure_read, write_in)

@@ -1,4 +1,4 @@
--- How many figures a page is read for: the book's law that it has few accounts rests on it.
+-- How many figures a page is read for: a page's law that it has few figures rests on it.
 use Rattle.std.specs.Prelude.{◌≡◌, ℕ, zero, suc, List, length, drop, refl}
 use Rattle.std.proofs.Common.{ap}
 use Rattle.pages.specs.Pages.{figures_of}

@@ -1,7 +1,7 @@
 -- Which pages make a page book, and what a check of one answers.
 use Rattle.std.specs.Prelude.{◌≡◌, ℕ, zero, suc, ◌+◌, ◌*◌, ◌^◌, ◌<◌, ◌≤◌, ◌⊎◌, List, [], ◌∷◌, ◌++◌, length, take, drop, Ok, Err, Result, ◌≢◌, slice_index}
 use Rattle.big_endian.specs.BigEndian.{bytes_of, number_of}
-use Rattle.tables.specs.Rows.{Low}
+use Rattle.rows.specs.Rows.{Low}
 use Rattle.pages.specs.declared.fault.PageFault.{PageFault}
 use Rattle.pages.specs.declared.fault.PageFault.TheVariants.{BadLength, BadLetter, LargeFigure}
 use Rattle.pages.specs.Faults.{page_number}
@@ -76,9 +76,9 @@ abbrev pub PageChecked : List ℕ → Result ℕ PageFault → Type 0
 PageChecked page (Ok k) = GoodPage k page
 PageChecked page (Err f) = PageRefuses page f
 
--- what a check of record a alone answers: 15 before 2
-abbrev pub RecordChecked : List ℕ → ℕ → Result (Unit {0}) PageFault → Type 0
-RecordChecked page a (Ok u) = (letter_at page a ≡ 80) × (figure_at page a ≤ 10 ^ 16)
-RecordChecked page a (Err f) =
-    ((f ≡ BadLetter a (letter_at page a)) × (letter_at page a ≢ 80))
-    ⊎ ((f ≡ LargeFigure a (figure_at page a)) × (letter_at page a ≡ 80) × (10 ^ 16 < figure_at page a))
+-- what a check of the record of account a answers, which holds this letter and figure: 15 before 2
+abbrev pub RecordChecked : ℕ → ℕ → ℕ → Result (Unit {0}) PageFault → Type 0
+RecordChecked letter figure a (Ok u) = (letter ≡ 80) × (figure ≤ 10 ^ 16)
+RecordChecked letter figure a (Err f) =
+    ((f ≡ BadLetter a letter) × (letter ≢ 80))
+    ⊎ ((f ≡ LargeFigure a figure) × (letter ≡ 80) × (10 ^ 16 < figure))

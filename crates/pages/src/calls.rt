@@ -1,15 +1,14 @@
-//! What a page book answers and does.
-ghost use Rattle.std.specs.Prelude.{◌≡◌, ◌+◌, ◌-◌, ◌*◌, ◌^◌, ◌<◌, ◌≤◌, length, OnErr, OnOk, slice_index, slice_set};
-ghost use Rattle.book.specs.Moves.{Taken, Put};
-ghost use Rattle.tables.specs.Rows.{Low};
-ghost use Rattle.pages.specs.Pages.{figure_at, PageChecked, RecordChecked};
-ghost use Rattle.pages.specs.Books.{bytes_in, figures_in, means_of, Keeps, Written};
+//! What a page answers and does.
+ghost use Rattle.std.specs.Prelude.{◌≡◌};
+ghost use Rattle.rows.specs.Rows.{Low};
+ghost use Rattle.pages.specs.Pages.{letter_at, figure_at, PageChecked, RecordChecked};
+ghost use Rattle.pages.specs.Books.{bytes_in, figures_in, Keeps, Written};
 ghost use Rattle.pages.specs.Lengths.{length_figures};
-ghost use Rattle.std.proofs.lemmas.List.{length-map};
 
-use crate::{PageBook, PageFault};
+use crate::{Page, PageFault};
 use big_endian::{read, write};
-use book::{Book, BookFault, LARGEST_FIGURE, MOST_ACCOUNTS, Reason, check_account, check_move};
+use book::{LARGEST_FIGURE, MOST_ACCOUNTS};
+use rows::{NotWritten, Row};
 
 /// What each record of a page begins with.
 const LETTER: u8 = b'P';
@@ -17,24 +16,15 @@ const LETTER: u8 = b'P';
 /// The bytes of a record: the letter, and the figure in eight.
 const RECORD_SIZE: usize = 9;
 
-// The figure of a record that is within the page.
-fn figure_at(page: &[u8], account: usize) -> u64
-    requires within { 9 * account + 9 ≤ length page.now }
-    ensures value { result ≡ figure_at page.now account }
+// Whether the record of an account is well formed. It refuses 15, then 2.
+fn check_record(bytes: &[u8; RECORD_SIZE], account: usize) -> Result<(), PageFault>
+    ensures answer { RecordChecked (letter_at bytes.now 0) (figure_at bytes.now 0) account result }
 {
-    read(page, RECORD_SIZE * account + 1).unwrap()
-}
-
-// Whether a record that is within the page is well formed. It refuses 15, then 2.
-fn check_record(page: &[u8], account: usize) -> Result<(), PageFault>
-    requires within { 9 * account + 9 ≤ length page.now }
-    ensures answer { RecordChecked page.now account result }
-{
-    let letter = page[RECORD_SIZE * account];
+    let letter = bytes[0];
     if letter != LETTER {
         return Err(PageFault::BadLetter { account, letter });
     }
-    let figure = figure_at(page, account);
+    let figure = read(bytes, 1).unwrap();
     if figure > LARGEST_FIGURE {
         return Err(PageFault::LargeFigure { account, figure });
     }
@@ -46,113 +36,63 @@ fn check_record(page: &[u8], account: usize) -> Result<(), PageFault>
 pub fn check_page(page: &[u8]) -> Result<usize, PageFault>
     ensures answer { PageChecked page.now result }
 {
-    let length = page.len();
-    let accounts = length / RECORD_SIZE;
-    if accounts == 0 || accounts > MOST_ACCOUNTS || length != RECORD_SIZE * accounts {
-        return Err(PageFault::BadLength { length });
+    let (records, rest) = page.as_chunks::<RECORD_SIZE>();
+    let accounts = records.len();
+    if accounts == 0 || accounts > MOST_ACCOUNTS || !rest.is_empty() {
+        return Err(PageFault::BadLength { length: page.len() });
     }
-    for account in 0..accounts {
-        check_record(page, account)?;
+    for (account, record) in records.iter().enumerate() {
+        check_record(record, account)?;
     }
     Ok(accounts)
 }
 
-impl PageBook {
-    /// The book over this page. A page that `check_page` refuses makes a book with no accounts, and keeps its bytes.
-    pub fn new(page: Vec<u8>) -> PageBook
-        ensures page { Keeps page.items result }
-        ensures standing { Low (figures_in result) }
+impl Page {
+    /// The page of these bytes. Bytes that `check_page` refuses make a page of no accounts, and are kept.
+    #[tactic(auto, using(crate::proofs::Pages::kept))]
+    pub fn new(bytes: Vec<u8>) -> Page
+        ensures page { Keeps bytes.items result }
+        ensures low { Low (figures_in result) }
     {
-        let accounts = check_page(page.as_slice()).unwrap_or(0);
-        PageBook { page, accounts }
+        let accounts = check_page(&bytes).unwrap_or(0);
+        Page { bytes, accounts }
     }
 
     /// The bytes as they stand.
-    pub fn page(&self) -> &[u8]
+    pub fn bytes(&self) -> &[u8]
         ensures value { result.now ≡ bytes_in self.now }
     {
-        self.page.as_slice()
-    }
-
-    // The figure of an account that is in the book.
-    fn figure(&self, account: usize) -> u64
-        requires here { account < self.now.accounts }
-        ensures value { result ≡ slice_index (figures_in self.now) account }
-    {
-        figure_at(self.page(), account)
-    }
-
-    // Writes the figure of an account that is in the book.
-    fn write(&mut self, account: usize, figure: u64)
-        requires here { account < self.old.accounts }
-        requires low { figure ≤ 10 ^ 16 }
-        ensures page { Written self.old account figure self.new }
-        ensures figures { figures_in self.new ≡ slice_set (figures_in self.old) account figure }
-    {
-        write(self.page.as_mut_slice(), RECORD_SIZE * account + 1, figure).unwrap();
+        &self.bytes
     }
 }
 
-impl Book for PageBook {
-    ghost means = { λ b. means_of b };
+#[tactic(auto, using(crate::proofs::Pages::as_a_row))]
+impl Row for Page {
+    ghost figures = { λ p. figures_in p };
 
-    ghost standing = { λ b. Low (figures_in b) };
+    ghost wrote = { λ p k n q. Written p k n q };
 
-    ghost few = { λ b. rw length-map (rw length_figures b.formed.0) };
+    ghost few = { λ p. rw length_figures p.formed.0 };
+
+    ghost low = { λ p. p.formed.2 };
 
     fn count(&self) -> usize {
         self.accounts
     }
 
-    fn ask_sendable(&self, account: usize) -> Result<u64, BookFault> {
-        check_account(self.accounts, account)?;
-        Ok(self.figure(account))
-    }
-
-    fn ask_open(&self, account: usize) -> Result<u64, BookFault> {
-        check_account(self.accounts, account)?;
-        Ok(LARGEST_FIGURE - self.figure(account))
-    }
-
-    /// As every book does. Of the page the eight bytes of the figure change, and no other.
-    fn take(&mut self, account: usize, sum: u64) -> Result<(), BookFault>
-        ensures answer { Taken (means_of self.old) account sum result (means_of self.new) }
-        ensures count { length (means_of self.new) ≡ length (means_of self.old) }
-        ensures same { OnErr result (self.new ≡ self.old) }
-        ensures standing { Low (figures_in self.old) → Low (figures_in self.new) }
-        ensures page { OnOk result (Written self.old account (slice_index (figures_in self.old) account - sum) self.new) }
-    {
-        check_move(self.accounts, account, sum)?;
-        let figure = self.figure(account);
-        if sum > figure {
-            return Err(BookFault {
-                account,
-                sum,
-                reason: Reason::AboveSendable,
-            });
+    fn figure(&self, place: usize) -> Option<u64> {
+        if place >= self.accounts {
+            return None;
         }
-        self.write(account, figure - sum);
-        Ok(())
+        read(self.bytes(), RECORD_SIZE * place + 1)
     }
 
-    /// As every book does. Of the page the eight bytes of the figure change, and no other.
-    fn put(&mut self, account: usize, sum: u64) -> Result<(), BookFault>
-        ensures answer { Put (means_of self.old) account sum result (means_of self.new) }
-        ensures count { length (means_of self.new) ≡ length (means_of self.old) }
-        ensures same { OnErr result (self.new ≡ self.old) }
-        ensures standing { Low (figures_in self.old) → Low (figures_in self.new) }
-        ensures page { OnOk result (Written self.old account (slice_index (figures_in self.old) account + sum) self.new) }
-    {
-        check_move(self.accounts, account, sum)?;
-        let figure = self.figure(account);
-        if sum > LARGEST_FIGURE - figure {
-            return Err(BookFault {
-                account,
-                sum,
-                reason: Reason::AboveOpen,
-            });
+    /// As every row does. Of the page the eight bytes of the figure change, and no other.
+    fn write(&mut self, place: usize, figure: u64) -> Result<(), NotWritten> {
+        if place >= self.accounts || figure > LARGEST_FIGURE {
+            return Err(NotWritten);
         }
-        self.write(account, figure + sum);
+        write(&mut self.bytes, RECORD_SIZE * place + 1, figure).unwrap();
         Ok(())
     }
 }

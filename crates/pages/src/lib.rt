@@ -3,17 +3,22 @@
 
 ghost use Rattle.pages.specs.Pages.{Formed};
 
+use rows::FigureBook;
+
 mod calls;
 mod fault;
 
 pub use calls::check_page;
 pub use fault::PageFault;
 
-/// The book over a page of bytes, 9 for each of 1 to 16 accounts: the letter P, then a figure of at most 10^16 in eight
-/// bytes, the greatest first. A figure may be sent, and what is left up to 10^16 may come in.
+/// A page of bytes, 9 for each of at most 16 accounts: the letter P, then a figure of at most 10^16 in eight bytes, the
+/// greatest first.
 #[derive(Drop)]
-pub struct PageBook {
-    page: Vec<u8>,
+pub struct Page {
+    bytes: Vec<u8>,
     accounts: usize,
-    ghost formed: { Formed accounts page.items },
+    ghost formed: { Formed accounts bytes.items },
 }
+
+/// The book over a page.
+pub type PageBook = FigureBook<Page>;

@@ -1,17 +1,9 @@
--- Which rows make a table book, and what it means.
-use Rattle.std.specs.Prelude.{◌≡◌, ℕ, ◌-◌, ◌^◌, ◌<◌, ◌≤◌, ◌⊎◌, List, [], map, length, Ok, Err, Result, slice_index}
+-- Which rows make a table.
+use Rattle.std.specs.Prelude.{◌≡◌, ℕ, ◌^◌, ◌<◌, ◌≤◌, ◌⊎◌, List, [], length, Ok, Err, Result, slice_index}
 use Rattle.tables.specs.declared.fault.RowFault.{RowFault}
 use Rattle.tables.specs.declared.fault.RowFault.TheVariants.{BadLength, LargeFigure}
 use Rattle.tables.specs.Faults.{row_number}
-use Rattle.book.specs.Figures.{Figures, figures}
-
--- a figure may be sent, and what is left up to 10^16 may come in
-abbrev pub table_means : List ℕ → List Figures
-table_means ns = map (λ n. figures n (10 ^ 16 - n)) ns
-
--- no figure passes 10^16
-abbrev pub Low : List ℕ → Type 0
-Low ns = (k : ℕ) → slice_index ns k ≤ 10 ^ 16
+use Rattle.rows.specs.Rows.{Low}
 
 -- a row that makes a book: 1 to 16 figures, none of them too large
 pub record GoodRow (ns : List ℕ) : Type 0 where

@@ -1,16 +1,16 @@
-//! The book over a row of figures.
-ghost use Rattle.std.specs.Prelude.{◌≡◌, ◌≤◌, vec_len};
-ghost use Rattle.tables.specs.Rows.{Low, table_means, RowChecked, Keeps};
+//! The row of figures in a list.
+ghost use Rattle.std.specs.Prelude.{◌≡◌, ◌≤◌, slice_set, vec_len};
+ghost use Rattle.rows.specs.Rows.{Low};
+ghost use Rattle.tables.specs.Rows.{RowChecked, Keeps};
 ghost use Rattle.std.proofs.Common.{arith};
-ghost use Rattle.std.proofs.lemmas.List.{length-map};
 
 use crate::fault::RowFault;
-use book::{Book, BookFault, LARGEST_FIGURE, MOST_ACCOUNTS, Reason, check_account, check_move};
+use book::{LARGEST_FIGURE, MOST_ACCOUNTS};
+use rows::{NotWritten, Row};
 
-/// The book over a row of 1 to 16 figures, each at most 10^16: a figure may be sent, and what is left up to 10^16 may
-/// come in.
+/// A row of at most 16 figures, each at most 10^16.
 #[derive(Drop)]
-pub struct TableBook {
+pub struct Table {
     row: Vec<u64>,
     ghost few: { vec_len row ≤ 16 },
     ghost low: { Low row.items },
@@ -25,8 +25,7 @@ pub fn check_row(row: &[u64]) -> Result<(), RowFault>
     if length == 0 || length > MOST_ACCOUNTS {
         return Err(RowFault::BadLength { length });
     }
-    for place in 0..length {
-        let figure = row[place];
+    for (place, &figure) in row.iter().enumerate() {
         if figure > LARGEST_FIGURE {
             return Err(RowFault::LargeFigure { place, figure });
         }
@@ -34,72 +33,48 @@ pub fn check_row(row: &[u64]) -> Result<(), RowFault>
     Ok(())
 }
 
-impl TableBook {
-    /// The book over this row. A row that `check_row` refuses makes a book with no accounts.
-    pub fn new(mut row: Vec<u64>) -> TableBook
+impl Table {
+    /// The table of this row. A row that `check_row` refuses makes a table of no figures.
+    pub fn new(mut row: Vec<u64>) -> Table
         ensures row { Keeps row.items result.row.items }
-        ensures standing { Low result.row.items }
+        ensures low { Low result.row.items }
     {
-        if check_row(row.as_slice()).is_err() {
+        if check_row(&row).is_err() {
             row.clear();
         }
-        TableBook { row }
+        Table { row }
     }
 
     /// The figures as they stand, one for each account.
     pub fn figures(&self) -> &[u64]
         ensures value { result.now ≡ self.now.row.items }
     {
-        self.row.as_slice()
+        &self.row
     }
 }
 
-impl Book for TableBook {
-    ghost means = { λ b. table_means b.row.items };
+impl Row for Table {
+    ghost figures = { λ t. t.row.items };
 
-    ghost standing = { λ b. Low b.row.items };
+    ghost wrote = { λ t k n s. s.row.items ≡ slice_set t.row.items k n };
 
-    ghost few = { λ b. rw length-map (omega (arith, b.few, b.row.ok.0)) };
+    ghost few = { λ t. omega (arith, t.few, t.row.ok.0) };
+
+    ghost low = { λ t. t.low };
 
     fn count(&self) -> usize {
         self.figures().len()
     }
 
-    fn ask_sendable(&self, account: usize) -> Result<u64, BookFault> {
-        check_account(self.row.len(), account)?;
-        Ok(self.row[account])
+    fn figure(&self, place: usize) -> Option<u64> {
+        self.row.get(place).copied()
     }
 
-    fn ask_open(&self, account: usize) -> Result<u64, BookFault> {
-        check_account(self.row.len(), account)?;
-        Ok(LARGEST_FIGURE - self.row[account])
-    }
-
-    fn take(&mut self, account: usize, sum: u64) -> Result<(), BookFault> {
-        check_move(self.row.len(), account, sum)?;
-        let figure = self.row[account];
-        if sum > figure {
-            return Err(BookFault {
-                account,
-                sum,
-                reason: Reason::AboveSendable,
-            });
+    fn write(&mut self, place: usize, figure: u64) -> Result<(), NotWritten> {
+        if place >= self.row.len() || figure > LARGEST_FIGURE {
+            return Err(NotWritten);
         }
-        self.row[account] = figure - sum;
-        Ok(())
-    }
-
-    fn put(&mut self, account: usize, sum: u64) -> Result<(), BookFault> {
-        check_move(self.row.len(), account, sum)?;
-        let figure = self.row[account];
-        if sum > LARGEST_FIGURE - figure {
-            return Err(BookFault {
-                account,
-                sum,
-                reason: Reason::AboveOpen,
-            });
-        }
-        self.row[account] = figure + sum;
+        self.row[place] = figure;
         Ok(())
     }
 }
