@@ -41,13 +41,6 @@ rule_write c a x y n rule hb hl lent dry = record {
       (λ (ne : k ≢ a). λ h. sendable_other c.below a k x y ne ∙ rule.dry k (rw get_or-set_other at h)) (cases_eq k a);
 }
 
--- what a state d is after a take of s from account a in state c
-pub record Lends (c d : Credit) (a s : ℕ) : Type 0 where
-  pub split : d ≡ lend c a s
-  pub means : credit_means d ≡ after_take (credit_means c) a s
-  pub count : length (credit_means d) ≡ length (credit_means c)
-  pub rule : CreditRule c → CreditRule d
-
 -- after a take a loan means that the book below has nothing left
 rule_lend : (c : Credit) (a s : ℕ) → At c a → a < length c.below → a < length c.loans → s ≤ sendable_at (credit_means c) a → CreditRule c → CreditRule (lend c a s)
 rule_lend c a s r hb hl le rule =
@@ -55,33 +48,39 @@ rule_lend c a s r hb hl le rule =
     rule_write c a _ _ _ rule hb hl (omega arith)
     (λ h. ⊎_elim (λ (l : 0 < loan_of c a). omega (arith, rule.dry a l)) (λ (n : loan_of c a ≤ 0). omega arith) (cases_lt 0 (loan_of c a)))
 
--- p was taken below and the rest lent
-pub lends : (c d : Credit) (a s p : ℕ) → At c a → a < length c.below → a < length c.loans → loan_of c a ≤ limit_of c a → s ≤ sendable_at (credit_means c) a → d.limits ≡ c.limits → d.loans ≡ set c.loans a (loan_of c a + (s - p)) → p ≡ min s (sendable_at c.below a) → d.below ≡ after_take c.below a p → Lends c d a s
-lends c d a s p r hb hl lent le limits loans e below =
-    let loans : d.loans ≡ (lend c a s).loans = loans ∙ ap (λ n. set c.loans a (loan_of c a + n)) (omega arith) in
-    let below : d.below ≡ (lend c a s).below = below ∙ ap (after_take c.below a) e in
-    let split : d ≡ lend c a s = λ i. record { limits = limits i; loans = loans i; below = below i } in
-    let means : credit_means d ≡ after_take (credit_means c) a s = ap credit_means split ∙ means_write c a _ _ _ hl ∙ ap (set (credit_means c) a) (same (omega arith) (omega arith)) in
-    record { split = split; means = means; count = ap length means ∙ length-set (credit_means c) _ _; rule = λ st. subst CreditRule (sym split) (rule_lend c a s r hb hl le st) }
-
--- what a state d is after a put of s to account a in state c
-pub record Repays (c d : Credit) (a s : ℕ) : Type 0 where
-  pub split : d ≡ repay c a s
-  pub means : credit_means d ≡ after_put (credit_means c) a s
-  pub count : length (credit_means d) ≡ length (credit_means c)
-  pub rule : CreditRule c → CreditRule d
-
 -- after a put a loan means that nothing went to the book below
 rule_repay : (c : Credit) (a s : ℕ) → a < length c.below → a < length c.loans → CreditRule c → CreditRule (repay c a s)
 rule_repay c a s hb hl rule =
     let lent = rule.lent a in
     rule_write c a _ _ _ rule hb hl (omega arith) (λ h. omega (arith, rule.dry a (omega arith)))
 
+-- the state d is what a move makes of c: `to`, which means m
+pub record Moved (c d to : Credit) (m : List Figures) : Type 0 where
+  pub split : d ≡ to
+  pub means : credit_means d ≡ m
+  pub count : length (credit_means d) ≡ length (credit_means c)
+  pub rule : CreditRule c → CreditRule d
+
+moved : (c d to : Credit) (a : ℕ) (f : Figures) → d ≡ to → credit_means to ≡ set (credit_means c) a f → (CreditRule c → CreditRule to) → Moved c d to (set (credit_means c) a f)
+moved c d to a f split means rule =
+    let means : credit_means d ≡ set (credit_means c) a f = ap credit_means split ∙ means in
+    record { split = split; means = means; count = ap length means ∙ length-set (credit_means c) a f; rule = λ st. subst CreditRule (sym split) (rule st) }
+
+state : (d to : Credit) → d.limits ≡ to.limits → d.loans ≡ to.loans → d.below ≡ to.below → d ≡ to
+state d to limits loans below = λ i. record { limits = limits i; loans = loans i; below = below i }
+
+-- p was taken below and the rest lent
+pub lends : (c d : Credit) (a s p : ℕ) → At c a → a < length c.below → a < length c.loans → loan_of c a ≤ limit_of c a → s ≤ sendable_at (credit_means c) a → d.limits ≡ c.limits → d.loans ≡ set c.loans a (loan_of c a + (s - p)) → p ≡ min s (sendable_at c.below a) → d.below ≡ after_take c.below a p → Moved c d (lend c a s) (after_take (credit_means c) a s)
+lends c d a s p r hb hl lent le limits loans e below =
+    moved c d (lend c a s) a _
+    (state d (lend c a s) limits (loans ∙ ap (λ n. set c.loans a (loan_of c a + n)) (omega arith)) (below ∙ ap (after_take c.below a) e))
+    (means_write c a _ _ _ hl ∙ ap (set (credit_means c) a) (same (omega arith) (omega arith)))
+    (rule_lend c a s r hb hl le)
+
 -- p was repaid and the rest put below
-pub repays : (c d : Credit) (a s p : ℕ) → At c a → a < length c.below → a < length c.loans → loan_of c a ≤ limit_of c a → s ≤ open_at (credit_means c) a → d.limits ≡ c.limits → d.loans ≡ set c.loans a (loan_of c a - p) → p ≡ min s (loan_of c a) → d.below ≡ after_put c.below a (s - p) → Repays c d a s
+pub repays : (c d : Credit) (a s p : ℕ) → At c a → a < length c.below → a < length c.loans → loan_of c a ≤ limit_of c a → s ≤ open_at (credit_means c) a → d.limits ≡ c.limits → d.loans ≡ set c.loans a (loan_of c a - p) → p ≡ min s (loan_of c a) → d.below ≡ after_put c.below a (s - p) → Moved c d (repay c a s) (after_put (credit_means c) a s)
 repays c d a s p r hb hl lent le limits loans e below =
-    let loans : d.loans ≡ (repay c a s).loans = loans ∙ ap (set c.loans a) (omega arith) in
-    let below : d.below ≡ (repay c a s).below = below ∙ ap (after_put c.below a) (omega arith) in
-    let split : d ≡ repay c a s = λ i. record { limits = limits i; loans = loans i; below = below i } in
-    let means : credit_means d ≡ after_put (credit_means c) a s = ap credit_means split ∙ means_write c a _ _ _ hl ∙ ap (set (credit_means c) a) (same (omega arith) (omega arith)) in
-    record { split = split; means = means; count = ap length means ∙ length-set (credit_means c) _ _; rule = λ st. subst CreditRule (sym split) (rule_repay c a s hb hl st) }
+    moved c d (repay c a s) a _
+    (state d (repay c a s) limits (loans ∙ ap (set c.loans a) (omega arith)) (below ∙ ap (after_put c.below a) (omega arith)))
+    (means_write c a _ _ _ hl ∙ ap (set (credit_means c) a) (same (omega arith) (omega arith)))
+    (rule_repay c a s hb hl)

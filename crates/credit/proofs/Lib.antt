@@ -1,3 +1,3 @@
 pub mod Credits
 pub mod Lines
-pub mod Rows
+pub mod Maps

@@ -14,11 +14,17 @@ within [] k = omega arith
 within (l ∷ lines) zero = l.lent
 within (l ∷ lines) (suc k) = within lines k
 
-pub limit_at : (lines : List Line) (a : ℕ) (d : Line) → a < length lines → get_or (limits lines) a 0 ≡ (get_or lines a d).limit
-limit_at lines a d h = get_or-map (λ l. l.limit) lines a d 0 h
+-- l is the line of account a
+pub record LineAt (lines : List Line) (a : ℕ) (l : Line) : Type 0 where
+  pub limit : l.limit ≡ get_or (limits lines) a 0
+  pub loan : l.loan ≡ get_or (loans lines) a 0
+  pub lent : get_or (loans lines) a 0 ≤ get_or (limits lines) a 0
 
-pub loan_at : (lines : List Line) (a : ℕ) (d : Line) → a < length lines → get_or (loans lines) a 0 ≡ (get_or lines a d).loan
-loan_at lines a d h = get_or-map (λ l. l.loan) lines a d 0 h
+pub line_at : (lines : List Line) (a : ℕ) (d : Line) → a < length lines → LineAt lines a (get_or lines a d)
+line_at lines a d h =
+    let limit = get_or-map (λ l. l.limit) lines a d 0 h in
+    let loan = get_or-map (λ l. l.loan) lines a d 0 h in
+    record { limit = cc; loan = cc; lent = within lines a }
 
 pub limits_set : (lines : List Line) (a : ℕ) (l : Line) → l.limit ≡ get_or (limits lines) a 0 → limits (set lines a l) ≡ limits lines
 limits_set lines a l e = map-set _ lines a l ∙ ap (set (limits lines) a) e ∙ set-get_or (limits lines) a 0

@@ -78,6 +78,7 @@ impl<B: Book> Book for CreditBook<B> {
             return Err(Reason::AboveSendable.at(account, sum));
         }
         let part = sum.min(own);
+        // The book below refuses a sum of 0.
         if part > 0 {
             self.below.take(account, part)?;
         }
@@ -97,10 +98,11 @@ impl<B: Book> Book for CreditBook<B> {
             return Err(Reason::AboveOpen.at(account, sum));
         }
         let part = sum.min(loan);
+        // The book below refuses a sum of 0.
         if sum > part {
             self.below.put(account, sum - part)?;
         }
-        self.lines[account].loan = loan - part;
+        self.lines[account].loan -= part;
         Ok(())
     }
 }

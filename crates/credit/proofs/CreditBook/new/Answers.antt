@@ -1,5 +1,5 @@
-use Rattle.std.proofs.Common.{rules, ℕ, ◌≡◌, ◌<◌, refl, get_or, map, ◌∙◌, arith, lit<}
-use Rattle.credit.proofs.Rows.{serves_each, mapped_at}
+use Rattle.std.proofs.Common.{rules, ℕ, ◌≡◌, refl, get_or, map, ◌∙◌, arith, lit<}
+use Rattle.credit.proofs.Maps.{serves_each, mapped_at}
 use Rattle.credit.proofs.Lines.{within}
 use Rattle.credit.proofs.CreditBook.new.Goals as goal
 

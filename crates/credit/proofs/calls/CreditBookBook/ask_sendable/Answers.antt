@@ -2,7 +2,7 @@ use Rattle.std.proofs.Common.{◌<◌, length, arith}
 use Rattle.std.proofs.lemmas.Result.{err_from_is_err_and}
 use Rattle.credit.specs.Books.{credit_of}
 use Rattle.credit.proofs.Credits.{length_credit, at}
-use Rattle.credit.proofs.Lines.{within, limit_at, loan_at}
+use Rattle.credit.proofs.Lines.{line_at}
 use Rattle.credit.proofs.calls.CreditBookBook.ask_sendable.Goals as goal
 
 pub returns-in_err-own : goal.returns-in_err-own
@@ -19,7 +19,5 @@ returns g c =
     let r = at (credit_of g.B.Book b) a own.0 in
     let few = g.met.B.Book.few b.below in
     let short : a < length b.lines = omega arith in
-    let lent = within b.lines a in
-    let limit = limit_at b.lines a c.index-self-account.result short in
-    let loan = loan_at b.lines a c.index-self-account.result short in
+    let line = line_at b.lines a c.index-self-account.result short in
     record { answer = (r.within, omega arith) }
