@@ -74,7 +74,8 @@ impl<B: Book> Book for CreditBook<B> {
     {
         check_move(self.below.count(), account, sum)?;
         let own = self.below.ask_sendable(account)?;
-        if sum > own + self.lines[account].left() {
+        let left = self.lines[account].left();
+        if sum > own + left {
             return Err(Reason::AboveSendable.at(account, sum));
         }
         let part = sum.min(own);

@@ -1,9 +1,9 @@
 use Rattle.std.proofs.Common.{◌-◌, ◌<◌, length, get_or, set, sym, refl, ap, ◌∙◌, inl, inr, arith, length-set}
 use Rattle.std.proofs.lemmas.Result.{err_from_is_err_and}
-use Rattle.book.proofs.Moves.{unfit_in, fits_in, refuses_in, refused_all}
+use Rattle.book.proofs.Moves.{unfit_in, fits_in, refuses_in}
 use Rattle.rooms.specs.Rooms.{room_means}
 use Rattle.rooms.specs.Books.{rooms_of}
-use Rattle.rooms.proofs.Spaces.{length_room, at, means_spend, low_set, same_book, held}
+use Rattle.rooms.proofs.Spaces.{length_room, at, means_spend, same_book, held, stands, kept}
 use Rattle.rooms.proofs.calls.RoomBookBook.take.Goals as goal
 
 pub returns-in_err-check_move-clause-answer : goal.returns-in_err-check_move-clause-answer
@@ -31,11 +31,7 @@ returns-in_err-take g c =
     let left = held b.rooms below.answer.1 in
     record {
       answer = rw (p.1, p.2) (refuses_in (sym (length_room w)) (λ h. omega arith) below.answer.0, ap room_means left);
-      keeps = record {
-        count = ap length (ap room_means left);
-        same = refused_all c.from_residual-in_err-take.result (same_book c.take.new.self b _ below.keeps.same);
-        standing = λ st. record { below = below.keeps.standing st.below; own = st.own };
-      };
+      keeps = kept _ _ _ (same_book c.take.new.self b _ below.keeps.same);
       rooms = rw p.1 left;
     }
 
@@ -52,15 +48,10 @@ returns g c =
     let low = b.low a in
     let short : a < length b.rooms = omega arith in
     let many = c.count.ensures.value ∙ sym (length_room w) in
-    let rooms = set b.rooms a (get_or b.rooms a 0 - s) in
-    let after = held rooms below.answer.2 in
+    let after = held (set b.rooms a (get_or b.rooms a 0 - s)) below.answer.2 in
     let means = ap room_means after ∙ means_spend w a s r short low (omega arith) in
     record {
       answer = (fits_in many fit, omega arith, means);
-      keeps = record {
-        count = ap length means ∙ length-set (room_means w) _ _;
-        same = tt;
-        standing = λ st. record { below = below.keeps.standing st.below; own = low_set b.rooms a (get_or b.rooms a 0 - s) b.low short (omega arith) };
-      };
+      keeps = record { count = ap length means ∙ length-set (room_means w) _ _; same = tt; standing = λ st. stands _ (below.keeps.standing st.below) };
       rooms = after;
     }
