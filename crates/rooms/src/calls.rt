@@ -42,7 +42,7 @@ impl<B: Book> Book for RoomBook<B> {
         self.below().count()
     }
 
-    // What goes out and what comes in stay two calls, here and below: one for both would hide which way money goes.
+    // Each direction has its own call, here as in take and put: one for both would hide which way money goes.
     fn ask_sendable(&self, account: usize) -> Result<u64, BookFault> {
         let own = self.below.ask_sendable(account)?;
         Ok(own.min(self.rooms[account]))
