@@ -1,5 +1,5 @@
 -- The worked figures of a room book.
-use Rattle.std.proofs.Common.{Ok, Err, refl, inr, arith}
+use Rattle.std.proofs.Common.{Ok, Err, rules}
 use Rattle.book.specs.Moves.{Taken, Put}
 use Rattle.rooms.specs.Rooms.{room_means, spend, regain}
 use Rattle.cases.specs.Sure.{above}
@@ -8,12 +8,9 @@ use Rattle.cases.proofs.Sures.{one_taken, one_put, only}
 
 pub room_figures : RoomFigures
 room_figures = record {
-  six = record { number = refl; account = refl; sum = refl };
-  short = only Taken one_taken room_means (holds 40 100) (spend (holds 40 100) 0 41) 0 41 (Err (above 41)) (holds 40 100)
-      ((inr (record { number = refl; account = refl; sum = refl }, record { here = omega arith; some = omega arith; small = omega arith }, omega arith), refl), refl);
-  spent = only Taken one_taken room_means (holds 40 100) (spend (holds 40 100) 0 40) 0 40 (Ok tt) (holds 0 60)
-      ((record { here = omega arith; some = omega arith; small = omega arith }, omega arith, refl), refl);
-  regained = only Put one_put room_means (holds 0 60) (regain (holds 0 60) 0 10) 0 10 (Ok tt) (holds 10 70)
-      ((record { here = omega arith; some = omega arith; small = omega arith }, omega arith, refl), refl);
-  sendable = refl;
+  six = search rules;
+  short = only Taken one_taken room_means (holds 40 100) (spend (holds 40 100) 0 41) 0 41 (Err (above 41)) (holds 40 100) (search rules);
+  spent = only Taken one_taken room_means (holds 40 100) (spend (holds 40 100) 0 40) 0 40 (Ok tt) (holds 0 60) (search rules);
+  regained = only Put one_put room_means (holds 0 60) (regain (holds 0 60) 0 10) 0 10 (Ok tt) (holds 10 70) (search rules);
+  sendable = search rules;
 }

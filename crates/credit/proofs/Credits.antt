@@ -1,5 +1,5 @@
 -- How a move goes through a credit book.
-use Rattle.std.proofs.Common.{◌≡◌, ℕ, ◌+◌, ◌-◌, ◌<◌, ◌≤◌, min, ◌≢◌, List, length, get_or, set, sym, ap, ◌∙◌, subst, ⊎_elim, arith}
+use Rattle.std.proofs.Common.{◌≡◌, ℕ, ◌+◌, ◌-◌, ◌<◌, ◌≤◌, min, ◌≢◌, List, length, get_or, set, sym, ap, ◌∙◌, subst, ⊎_elim, arith, length-set}
 use Rattle.std.proofs.lemmas.List.{get_or-set_same, get_or-set_other}
 use Rattle.std.proofs.lemmas.Bool.{cases_eq, cases_lt}
 use Rattle.book.specs.Figures.{Figures, figures, sendable_at, open_at, after_take, after_put}
@@ -31,14 +31,6 @@ means_write c a x y n h =
     (λ k f (ne : k ≢ a). ap (λ z. figures (f.sendable + limit_of c k - z) (f.«open» + z)) (get_or-set_other c.loans a k n 0 ne))
     ∙ ap (λ z. set (credit_means c) a (figures (x + limit_of c a - z) (y + z))) (get_or-set_same c.loans a n 0 h)
 
-pub means_lend : (c : Credit) (a s : ℕ) → At c a → a < length c.loans → loan_of c a ≤ limit_of c a → s ≤ sendable_at (credit_means c) a → credit_means (lend c a s) ≡ after_take (credit_means c) a s
-means_lend c a s r h lent le =
-    means_write c a _ _ _ h ∙ ap (set (credit_means c) a) (same (omega arith) (omega arith))
-
-pub means_repay : (c : Credit) (a s : ℕ) → At c a → a < length c.loans → loan_of c a ≤ limit_of c a → s ≤ open_at (credit_means c) a → credit_means (repay c a s) ≡ after_put (credit_means c) a s
-means_repay c a s r h lent le =
-    means_write c a _ _ _ h ∙ ap (set (credit_means c) a) (same (omega arith) (omega arith))
-
 rule_write : (c : Credit) (a x y n : ℕ) → CreditRule c → a < length c.below → a < length c.loans → n ≤ limit_of c a → (0 < n → x ≡ 0) → CreditRule (write c a x y n)
 rule_write c a x y n rule hb hl lent dry = record {
   lent = λ k. ⊎_elim
@@ -50,27 +42,45 @@ rule_write c a x y n rule hb hl lent dry = record {
 }
 
 -- after a take a loan means that the book below has nothing left
-pub rule_lend : (c : Credit) (a s : ℕ) → CreditRule c → At c a → a < length c.below → a < length c.loans → s ≤ sendable_at (credit_means c) a → CreditRule (lend c a s)
-rule_lend c a s rule r hb hl le =
+rule_lend : (c : Credit) (a s : ℕ) → At c a → a < length c.below → a < length c.loans → s ≤ sendable_at (credit_means c) a → CreditRule c → CreditRule (lend c a s)
+rule_lend c a s r hb hl le rule =
     let lent = rule.lent a in
     rule_write c a _ _ _ rule hb hl (omega arith)
     (λ h. ⊎_elim (λ (l : 0 < loan_of c a). omega (arith, rule.dry a l)) (λ (n : loan_of c a ≤ 0). omega arith) (cases_lt 0 (loan_of c a)))
 
 -- after a put a loan means that nothing went to the book below
-pub rule_repay : (c : Credit) (a s : ℕ) → CreditRule c → a < length c.below → a < length c.loans → CreditRule (repay c a s)
-rule_repay c a s rule hb hl =
+rule_repay : (c : Credit) (a s : ℕ) → a < length c.below → a < length c.loans → CreditRule c → CreditRule (repay c a s)
+rule_repay c a s hb hl rule =
     let lent = rule.lent a in
     rule_write c a _ _ _ rule hb hl (omega arith) (λ h. omega (arith, rule.dry a (omega arith)))
 
--- two states with the same limits are the same where loans and book below are
-held : (L : List ℕ) {l l' : List ℕ} {m m' : List Figures} → l ≡ l' → m ≡ m' → ◌≡◌ {A = Credit} (record { limits = L; loans = l; below = m }) (record { limits = L; loans = l'; below = m' })
-held L e f = λ i. record { limits = L; loans = e i; below = f i }
+-- the state d is what a move makes of c: `to`, which means m
+pub record Moved (c d to : Credit) (m : List Figures) : Type 0 where
+  pub split : d ≡ to
+  pub means : credit_means d ≡ m
+  pub count : length (credit_means d) ≡ length (credit_means c)
+  pub rule : CreditRule c → CreditRule d
 
--- p was taken below and the rest lent; p was repaid and the rest put below
-pub lent_so : (c : Credit) (a s p : ℕ) (m : List Figures) → p ≡ min s (sendable_at c.below a) → m ≡ after_take c.below a p → ◌≡◌ {A = Credit} (record { limits = c.limits; loans = set c.loans a (loan_of c a + (s - p)); below = m }) (lend c a s)
-lent_so c a s p m e after =
-    held c.limits (ap (λ n. set c.loans a (loan_of c a + n)) (omega arith)) (after ∙ ap (after_take c.below a) e)
+moved : (c d to : Credit) (a : ℕ) (f : Figures) → d ≡ to → credit_means to ≡ set (credit_means c) a f → (CreditRule c → CreditRule to) → Moved c d to (set (credit_means c) a f)
+moved c d to a f split means rule =
+    let means : credit_means d ≡ set (credit_means c) a f = ap credit_means split ∙ means in
+    record { split = split; means = means; count = ap length means ∙ length-set (credit_means c) a f; rule = λ st. subst CreditRule (sym split) (rule st) }
 
-pub repaid_so : (c : Credit) (a s p : ℕ) (m : List Figures) → p ≡ min s (loan_of c a) → m ≡ after_put c.below a (s - p) → ◌≡◌ {A = Credit} (record { limits = c.limits; loans = set c.loans a (loan_of c a - p); below = m }) (repay c a s)
-repaid_so c a s p m e after =
-    held c.limits (ap (set c.loans a) (omega arith)) (after ∙ ap (after_put c.below a) (omega arith))
+state : (d to : Credit) → d.limits ≡ to.limits → d.loans ≡ to.loans → d.below ≡ to.below → d ≡ to
+state d to limits loans below = λ i. record { limits = limits i; loans = loans i; below = below i }
+
+-- p was taken below and the rest lent
+pub lends : (c d : Credit) (a s p : ℕ) → At c a → a < length c.below → a < length c.loans → loan_of c a ≤ limit_of c a → s ≤ sendable_at (credit_means c) a → d.limits ≡ c.limits → d.loans ≡ set c.loans a (loan_of c a + (s - p)) → p ≡ min s (sendable_at c.below a) → d.below ≡ after_take c.below a p → Moved c d (lend c a s) (after_take (credit_means c) a s)
+lends c d a s p r hb hl lent le limits loans e below =
+    moved c d (lend c a s) a _
+    (state d (lend c a s) limits (loans ∙ ap (λ n. set c.loans a (loan_of c a + n)) (omega arith)) (below ∙ ap (after_take c.below a) e))
+    (means_write c a _ _ _ hl ∙ ap (set (credit_means c) a) (same (omega arith) (omega arith)))
+    (rule_lend c a s r hb hl le)
+
+-- p was repaid and the rest put below
+pub repays : (c d : Credit) (a s p : ℕ) → At c a → a < length c.below → a < length c.loans → loan_of c a ≤ limit_of c a → s ≤ open_at (credit_means c) a → d.limits ≡ c.limits → d.loans ≡ set c.loans a (loan_of c a - p) → p ≡ min s (loan_of c a) → d.below ≡ after_put c.below a (s - p) → Moved c d (repay c a s) (after_put (credit_means c) a s)
+repays c d a s p r hb hl lent le limits loans e below =
+    moved c d (repay c a s) a _
+    (state d (repay c a s) limits (loans ∙ ap (set c.loans a) (omega arith)) (below ∙ ap (after_put c.below a) (omega arith)))
+    (means_write c a _ _ _ hl ∙ ap (set (credit_means c) a) (same (omega arith) (omega arith)))
+    (rule_repay c a s hb hl)

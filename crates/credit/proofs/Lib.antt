@@ -1,1 +1,3 @@
 pub mod Credits
+pub mod Lines
+pub mod Maps

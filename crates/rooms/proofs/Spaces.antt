@@ -1,13 +1,16 @@
 -- How a move goes through a room book.
-use Rattle.std.proofs.Common.{◌≡◌, ℕ, ◌-◌, ◌^◌, ◌<◌, ◌≤◌, min, ◌≢◌, List, length, get_or, set, sym, ap, ◌∙◌, subst, ⊎_elim, arith}
+use Rattle.std.proofs.Common.{◌≡◌, ℕ, ◌-◌, ◌^◌, ◌<◌, ◌≤◌, min, ◌≢◌, List, length, set, Result, sym, ap, ◌∙◌, subst, arith}
 use denote.Struct.Props.{props}
 use Rattle.std.proofs.lemmas.List.{get_or-set_same, get_or-set_other}
-use Rattle.std.proofs.lemmas.Bool.{cases_eq}
 use Rattle.book.specs.declared.book.Book.{Ghosts}
 use Rattle.book.specs.Figures.{Figures, figures, sendable_at, open_at, after_take, after_put}
 use Rattle.book.proofs.Figures.{same}
 use Rattle.book.proofs.Layers.{length-layered, at_layered, set_layered}
+use Rattle.book.specs.declared.fault.BookFault.{BookFault}
+use Rattle.book.specs.Moves.{MoveKeeps}
+use Rattle.book.proofs.Moves.{refused_all}
 use Rattle.rooms.specs.declared.RoomBook.{RoomBook}
+use Rattle.rooms.specs.Books.{Stands}
 use Rattle.rooms.specs.Rooms.{Rooms, room_of, room_means, RoomRule, spend, regain}
 
 pub length_room : (w : Rooms) → length (room_means w) ≡ length w.below
@@ -39,12 +42,6 @@ pub means_regain : (w : Rooms) (a s : ℕ) → At w a → a < length w.rooms →
 means_regain w a s r h low le =
     means_write w a _ _ _ h ∙ ap (set (room_means w) a) (same (omega arith) (omega arith))
 
-pub low_set : (rooms : List ℕ) (a n : ℕ) → RoomRule rooms → a < length rooms → n ≤ 10 ^ 18 → RoomRule (set rooms a n)
-low_set rooms a n rule h low k =
-    ⊎_elim
-    (λ (e : k ≡ a). subst (λ j. get_or (set rooms a n) j 0 ≤ 10 ^ 18) (sym e) (rw get_or-set_same low))
-    (λ (ne : k ≢ a). rw get_or-set_other (rule k)) (cases_eq k a)
-
 low_prop : (rooms : List ℕ) → IsProp (RoomRule rooms)
 low_prop rooms = hlevel props
 
@@ -55,3 +52,11 @@ same_book b y p e = λ i. record { below = e i; rooms = y.rooms; low = low_prop 
 -- the same rooms over the same meaning
 pub held : (rooms : List ℕ) {m n : List Figures} → m ≡ n → ◌≡◌ {A = Rooms} (record { rooms = rooms; below = m }) (record { rooms = rooms; below = n })
 held rooms e = λ i. record { rooms = rooms; below = e i }
+
+-- the rule on the rooms is in the type
+pub stands : {B : Type 0} {G : Ghosts B} (b : RoomBook B G) → G.standing b.below → Stands G b
+stands b below = record { below = below; own = b.low }
+
+-- what a move keeps that leaves the very same book
+pub kept : {B : Type 0} {means : B → List Figures} {stands : B → Type 0} (old new : B) (r : Result (Unit {0}) BookFault) → new ≡ old → MoveKeeps means stands old r new
+kept {means} {stands} old new r e = record { count = ap (λ b. length (means b)) e; same = refused_all r e; standing = subst stands (sym e) }

@@ -1,6 +1,6 @@
 //! What a room book answers and does.
-ghost use Rattle.std.specs.Prelude.{◌≡◌, length, OnErr};
-ghost use Rattle.book.specs.Moves.{Taken, Put};
+ghost use Rattle.std.specs.Prelude.{◌≡◌};
+ghost use Rattle.book.specs.Moves.{Taken, Put, MoveKeeps};
 ghost use Rattle.book.specs.Layers.{Capped, Leaves};
 ghost use Rattle.rooms.specs.Rooms.{room_means, spend, regain};
 ghost use Rattle.rooms.specs.Books.{rooms_of, Stands};
@@ -42,6 +42,7 @@ impl<B: Book> Book for RoomBook<B> {
         self.below().count()
     }
 
+    // Each direction has its own call, here as in take and put: one for both would hide which way money goes.
     fn ask_sendable(&self, account: usize) -> Result<u64, BookFault> {
         let own = self.below.ask_sendable(account)?;
         Ok(own.min(self.rooms[account]))
@@ -54,19 +55,13 @@ impl<B: Book> Book for RoomBook<B> {
 
     fn take(&mut self, account: usize, sum: u64) -> Result<(), BookFault>
         ensures answer { Taken (room_means (rooms_of B.Book self.old)) account sum result (room_means (rooms_of B.Book self.new)) }
-        ensures count { length (room_means (rooms_of B.Book self.new)) ≡ length (room_means (rooms_of B.Book self.old)) }
-        ensures same { OnErr result (self.new ≡ self.old) }
-        ensures standing { Stands B.Book self.old → Stands B.Book self.new }
+        ensures keeps { MoveKeeps (λ b. room_means (rooms_of B.Book b)) (λ b. Stands B.Book b) self.old result self.new }
         ensures rooms { Leaves (rooms_of B.Book self.old) (spend (rooms_of B.Book self.old) account sum) result (rooms_of B.Book self.new) }
     {
         check_move(self.below.count(), account, sum)?;
         let room = self.rooms[account];
         if sum > room {
-            return Err(BookFault {
-                account,
-                sum,
-                reason: Reason::AboveSendable,
-            });
+            return Err(Reason::AboveSendable.at(account, sum));
         }
         self.below.take(account, sum)?;
         self.rooms[account] = room - sum;
@@ -75,19 +70,13 @@ impl<B: Book> Book for RoomBook<B> {
 
     fn put(&mut self, account: usize, sum: u64) -> Result<(), BookFault>
         ensures answer { Put (room_means (rooms_of B.Book self.old)) account sum result (room_means (rooms_of B.Book self.new)) }
-        ensures count { length (room_means (rooms_of B.Book self.new)) ≡ length (room_means (rooms_of B.Book self.old)) }
-        ensures same { OnErr result (self.new ≡ self.old) }
-        ensures standing { Stands B.Book self.old → Stands B.Book self.new }
+        ensures keeps { MoveKeeps (λ b. room_means (rooms_of B.Book b)) (λ b. Stands B.Book b) self.old result self.new }
         ensures rooms { Leaves (rooms_of B.Book self.old) (regain (rooms_of B.Book self.old) account sum) result (rooms_of B.Book self.new) }
     {
         check_move(self.below.count(), account, sum)?;
         let room = self.rooms[account];
         if sum > LARGEST_ANSWER - room {
-            return Err(BookFault {
-                account,
-                sum,
-                reason: Reason::AboveOpen,
-            });
+            return Err(Reason::AboveOpen.at(account, sum));
         }
         self.below.put(account, sum)?;
         self.rooms[account] = room + sum;

@@ -1,36 +1,24 @@
 use Rattle.std.proofs.Common.{◌-◌, ◌<◌, length, get_or, set, sym, refl, ap, ◌∙◌, inl, inr, arith, length-set}
 use Rattle.std.proofs.lemmas.Result.{err_from_is_err_and}
-use Rattle.book.proofs.Moves.{unfit_in, fits_in, refuses_in, refused_all}
+use Rattle.book.proofs.Moves.{unfit_in, fits_in, refuses_in}
 use Rattle.rooms.specs.Rooms.{room_means}
 use Rattle.rooms.specs.Books.{rooms_of}
-use Rattle.rooms.proofs.Spaces.{length_room, at, means_spend, low_set, same_book, held}
+use Rattle.rooms.proofs.Spaces.{length_room, at, means_spend, same_book, held, stands, kept}
 use Rattle.rooms.proofs.calls.RoomBookBook.take.Goals as goal
 
-pub returns-in_err-check_move : goal.returns-in_err-check_move
-returns-in_err-check_move g c =
+pub returns-in_err-check_move-clause-answer : goal.returns-in_err-check_move-clause-answer
+returns-in_err-check_move-clause-answer g c =
     let p = err_from_is_err_and c.from_residual.result c.from_residual.ensures.1 in
     let many = c.count.ensures.value ∙ sym (length_room (rooms_of g.B.Book c.args.self.now)) in
-    record {
-      answer = rw (p.1, p.2) (inl (unfit_in many c.in_err-check_move.ensures.answer), refl);
-      count = refl;
-      same = refused_all c.from_residual.result refl;
-      standing = λ st. st;
-      rooms = rw p.1 refl;
-    }
+    rw (p.1, p.2) (inl (unfit_in many c.in_err-check_move.ensures.answer), refl)
 
-pub returns-then-sum-room : goal.returns-then-sum-room
-returns-then-sum-room g c =
+pub returns-then-sum-room-clause-answer : goal.returns-then-sum-room-clause-answer
+returns-then-sum-room-clause-answer g c =
     let w = rooms_of g.B.Book c.args.self.now in
     let fit = c.in_ok-check_move.ensures.answer in
     let r = at w c.args.account (omega arith) in
     let many = c.count.ensures.value ∙ sym (length_room w) in
-    record {
-      answer = (inr (record { number = refl; account = refl; sum = refl }, fits_in many fit, omega arith), refl);
-      count = refl;
-      same = refl;
-      standing = λ st. st;
-      rooms = refl;
-    }
+    rw c.at.ensures.value (inr (record { number = refl; account = refl; sum = refl }, fits_in many fit, omega arith), refl)
 
 pub returns-in_err-take : goal.returns-in_err-take
 returns-in_err-take g c =
@@ -43,9 +31,7 @@ returns-in_err-take g c =
     let left = held b.rooms below.answer.1 in
     record {
       answer = rw (p.1, p.2) (refuses_in (sym (length_room w)) (λ h. omega arith) below.answer.0, ap room_means left);
-      count = ap length (ap room_means left);
-      same = refused_all c.from_residual-in_err-take.result (same_book c.take.new.self b _ below.same);
-      standing = λ st. record { below = below.standing st.below; own = st.own };
+      keeps = kept _ _ _ (same_book c.take.new.self b _ below.keeps.same);
       rooms = rw p.1 left;
     }
 
@@ -62,13 +48,10 @@ returns g c =
     let low = b.low a in
     let short : a < length b.rooms = omega arith in
     let many = c.count.ensures.value ∙ sym (length_room w) in
-    let rooms = set b.rooms a (get_or b.rooms a 0 - s) in
-    let after = held rooms below.answer.2 in
+    let after = held (set b.rooms a (get_or b.rooms a 0 - s)) below.answer.2 in
     let means = ap room_means after ∙ means_spend w a s r short low (omega arith) in
     record {
       answer = (fits_in many fit, omega arith, means);
-      count = ap length means ∙ length-set (room_means w) _ _;
-      same = tt;
-      standing = λ st. record { below = below.standing st.below; own = low_set b.rooms a (get_or b.rooms a 0 - s) b.low short (omega arith) };
+      keeps = record { count = ap length means ∙ length-set (room_means w) _ _; same = tt; standing = λ st. stands _ (below.keeps.standing st.below) };
       rooms = after;
     }
