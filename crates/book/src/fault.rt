@@ -1,6 +1,9 @@
 //! Why a book refuses a call.
-ghost use Rattle.std.specs.Prelude.{◌≡◌};
-ghost use Rattle.book.specs.Faults.{reason_number};
+ghost use Rattle.std.specs.Prelude.{◌≡◌, Some};
+ghost use Rattle.book.specs.Faults.{reason_number, reason_words, book_words};
+
+use std::error::Error;
+use std::fmt;
 
 /// Why a book refused a call: the account and the sum that were named in it, and the reason. A question names the sum 0.
 #[derive(Clone, Copy, Debug, PartialEq, Eq)]
@@ -49,3 +52,32 @@ impl BookFault {
         }
     }
 }
+
+impl fmt::Display for Reason {
+    ghost output = { λ r. Some (reason_words r) };
+
+    fn fmt<W: fmt::Write>(&self, f: &mut fmt::Formatter<W>) -> fmt::Result {
+        f.write_str(match self {
+            Reason::NoAccount => "the account is not in the book",
+            Reason::BadSum => "the sum is 0 or above 10^16",
+            Reason::AboveSendable => "the sum is above what the account may send",
+            Reason::AboveOpen => "the sum is above what may come into the account",
+        })
+    }
+}
+
+impl fmt::Display for BookFault {
+    ghost output = { λ e. Some (book_words e) };
+
+    fn fmt<W: fmt::Write>(&self, f: &mut fmt::Formatter<W>) -> fmt::Result {
+        let BookFault {
+            account,
+            reason,
+            ..
+        } = *self;
+        let sum = self.sum;
+        write!(f, "account {account}, sum {sum}: {reason}")
+    }
+}
+
+impl Error for BookFault {}

@@ -1,6 +1,9 @@
 //! Why a page makes no book.
-ghost use Rattle.std.specs.Prelude.{◌≡◌};
-ghost use Rattle.pages.specs.Faults.{page_number};
+ghost use Rattle.std.specs.Prelude.{◌≡◌, Some};
+ghost use Rattle.pages.specs.Faults.{page_number, page_words};
+
+use std::error::Error;
+use std::fmt;
 
 /// Why a page of bytes makes no book.
 #[derive(Clone, Copy, Debug, PartialEq, Eq)]
@@ -25,3 +28,23 @@ impl PageFault {
         }
     }
 }
+
+impl fmt::Display for PageFault {
+    ghost output = { λ f. Some (page_words f) };
+
+    fn fmt<W: fmt::Write>(&self, f: &mut fmt::Formatter<W>) -> fmt::Result {
+        match *self {
+            PageFault::BadLength { length } => write!(f, "a page of {length} bytes makes no book"),
+            PageFault::BadLetter { account, letter } => write!(
+                f,
+                "record {account} begins with byte {letter}, and not with P"
+            ),
+            PageFault::LargeFigure { account, figure } => write!(
+                f,
+                "figure {figure} of record {account} is above 10^16"
+            ),
+        }
+    }
+}
+
+impl Error for PageFault {}

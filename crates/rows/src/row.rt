@@ -1,10 +1,23 @@
 //! What every row of figures offers.
-ghost use Rattle.std.specs.Prelude.{◌≡◌, ℕ, ◌≤◌, List, length, slice_get};
+ghost use Rattle.std.specs.Prelude.{◌≡◌, ℕ, ◌≤◌, List, length, slice_get, Some, codes};
 ghost use Rattle.rows.specs.Rows.{Low, WriteAnswers};
+
+use std::error::Error;
+use std::fmt;
 
 /// The row has no such place, or the figure is above 10^16.
 #[derive(Clone, Copy, Debug, PartialEq, Eq)]
 pub struct NotWritten;
+
+impl fmt::Display for NotWritten {
+    ghost output = { λ _. Some (codes "the row has no such place, or the figure is above 10^16") };
+
+    fn fmt<W: fmt::Write>(&self, f: &mut fmt::Formatter<W>) -> fmt::Result {
+        f.write_str("the row has no such place, or the figure is above 10^16")
+    }
+}
+
+impl Error for NotWritten {}
 
 /// A row of 0 to 16 figures, each at most 10^16, in whatever form it is kept.
 pub trait Row {

@@ -1,6 +1,9 @@
 //! Why a row makes no book.
-ghost use Rattle.std.specs.Prelude.{◌≡◌};
-ghost use Rattle.tables.specs.Faults.{row_number};
+ghost use Rattle.std.specs.Prelude.{◌≡◌, Some};
+ghost use Rattle.tables.specs.Faults.{row_number, row_words};
+
+use std::error::Error;
+use std::fmt;
 
 /// Why a row of figures makes no book.
 #[derive(Clone, Copy, Debug, PartialEq, Eq)]
@@ -22,3 +25,19 @@ impl RowFault {
         }
     }
 }
+
+impl fmt::Display for RowFault {
+    ghost output = { λ f. Some (row_words f) };
+
+    fn fmt<W: fmt::Write>(&self, f: &mut fmt::Formatter<W>) -> fmt::Result {
+        match *self {
+            RowFault::BadLength { length } => write!(f, "a row of {length} figures makes no book"),
+            RowFault::LargeFigure { place, figure } => write!(
+                f,
+                "figure {figure} at place {place} is above 10^16"
+            ),
+        }
+    }
+}
+
+impl Error for RowFault {}
