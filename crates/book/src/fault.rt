@@ -70,13 +70,8 @@ impl fmt::Display for BookFault {
     ghost output = { λ e. Some (book_words e) };
 
     fn fmt<W: fmt::Write>(&self, f: &mut fmt::Formatter<W>) -> fmt::Result {
-        let BookFault {
-            account,
-            reason,
-            ..
-        } = *self;
-        let sum = self.sum;
-        write!(f, "account {account}, sum {sum}: {reason}")
+        let reason = self.reason;
+        write!(f, "account {}, sum {}: {reason}", self.account, self.sum)
     }
 }
 
