@@ -37,6 +37,7 @@ impl<B: Book> CreditBook<B> {
         Ok(self.lines[account].loan)
     }
 
+    // A room book lends its book below by the same line: a trait for it would be longer than both.
     /// The book below.
     pub fn below(&self) -> &B
         ensures value { result.now ≡ self.now.below }

@@ -44,6 +44,7 @@ impl fmt::Display for FileFault {
 
 impl Error for FileFault {}
 
+// Both conversions are written out, so that a clause knows which fault a `?` makes.
 impl From<WriteFault> for FileFault {
     ghost from_gives = { λ fault r. r ≡ Write fault };
 

@@ -12,10 +12,12 @@ pub const MOST_BYTES: usize = 65_536;
 #[derive(Drop)]
 pub struct Input {
     pub bytes: Vec<u8>,
+    // The bytes are of use either way, and no two cases of an enum.
     pub has_more: bool,
 }
 
 impl Input {
+    // No `From`: it drops what is past the limit.
     /// What is kept of some bytes: the first `MOST_BYTES`, and whether there were more.
     pub fn of(mut bytes: Vec<u8>) -> Input
         ensures bytes { result.bytes.items ≡ take 65536 bytes.items }

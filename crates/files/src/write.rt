@@ -7,7 +7,7 @@ use layout::Record;
 use records::write_record;
 use std::alloc::Global;
 
-// The bytes of the longest kind of record, an opening.
+// The bytes of the longest kind of record, an opening: the writer fills a space that is lent to it.
 const LONGEST: usize = 26;
 
 /// Adds a record's bytes to the end of a file.

@@ -59,6 +59,7 @@ impl TryFrom<u8> for Kind {
 }
 
 impl Kind {
+    // No `From<Kind> for u8`: that would not say that the number is a letter.
     /// The letter that a record of this kind begins with.
     pub fn letter(self) -> u8
         ensures value { result ≡ letter_of self }

@@ -55,7 +55,8 @@ fn add_stop(text: &mut String, number: usize, stop: Option<ReadFault>) -> Result
     }
 }
 
-// How a copy compares with the file that it was made from, of which there may be more than was read.
+// How a copy compares with the file that it was made from, of which there may be more than was read. Any bytes and either
+// word of `is_cut` go together, so no type holds both.
 fn compare(file: &[u8], copy: &[u8], is_cut: bool) -> Verdict
     ensures answer { Judged file.now copy.now is_cut result }
 {
@@ -68,7 +69,8 @@ fn compare(file: &[u8], copy: &[u8], is_cut: bool) -> Verdict
     }
 }
 
-// The bytes of records that were read from a file, written out again.
+// The bytes of records that were read from a file, written out again. Under `map_err` a closure would have to require that
+// the fault is want of memory, so the cases are written out.
 fn written_back(heap: Global, records: &[Placed<'_>]) -> Result<Vec<u8>, AllocError>
     requires { AllByRecursion (λ w. Sized w.«record») records.now }
     ensures copy { IfOk result (λ v. v.items ≡ flat_map encode (said records.now)) }

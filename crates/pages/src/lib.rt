@@ -16,6 +16,7 @@ pub use fault::PageFault;
 #[derive(Drop)]
 pub struct Page {
     bytes: Vec<u8>,
+    // Not told by the length: bytes that make no book are kept too, with no accounts.
     accounts: usize,
     ghost formed: { Formed accounts bytes.items },
 }

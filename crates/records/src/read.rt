@@ -17,7 +17,7 @@ fn field<T: Number<N>, const N: usize>(body: &[u8], at: usize) -> T
     read(body, at).unwrap()
 }
 
-// The record of a kind whose body some bytes begin with.
+// The record of a kind whose body some bytes begin with. Arms that are equal but for the kind stay two: each makes its own.
 fn decode<'a>(kind: Kind, body: &'a [u8]) -> Record<'a>
     requires { body_of kind ≤ length body.now }
     ensures says { plain result ≡ parsed kind body.now }

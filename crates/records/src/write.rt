@@ -13,10 +13,8 @@ const REFERENCE_LEN: usize = 8;
 fn is_sized(what: &Record<'_>) -> bool
     ensures answer { MatchBool result (Sized what.now) (Sized what.now → ⊥) }
 {
-    match what.reference() {
-        Some(reference) => reference.len() == REFERENCE_LEN,
-        None => true,
-    }
+    what.reference()
+        .is_none_or(|reference| reference.len() == REFERENCE_LEN)
 }
 
 // Puts a number at a place of a space that has room for it.
