@@ -1,8 +1,7 @@
 -- What every book's answers to a move have in common.
-use Rattle.std.proofs.Common.{◌≡◌, ℕ, ◌<◌, ◌≤◌, List, length, IfErr, Ok, Err, Result, subst, inl, inr, ⊎_elim, arith}
+use Rattle.std.proofs.Common.{◌≡◌, ℕ, ◌<◌, ◌≤◌, IfErr, Ok, Err, Result, subst, inl, inr, ⊎_elim, arith}
 use Rattle.book.specs.declared.fault.BookFault.{BookFault}
-use Rattle.book.specs.Figures.{Figures, sendable_at, open_at, after_take, after_put}
-use Rattle.book.specs.Moves.{Fits, Unfit, Refuses, Taken, Put}
+use Rattle.book.specs.Moves.{Fits, Unfit, Refuses}
 
 -- the number of accounts may be written in another way
 pub unfit_in : {n k a s : ℕ} {f : BookFault} → n ≡ k → Unfit n a s f → Unfit k a s f
@@ -25,11 +24,3 @@ not_refused fits le r =
     ⊎_elim
     (λ u. ⊎_elim (λ x. omega (arith, x.1)) (λ x. ⊎_elim (λ z. omega (arith, z)) (λ z. omega (arith, z)) x.2) u)
     (λ t. omega (arith, t.2)) r
-
-pub taken_sure : (m n : List Figures) (a s : ℕ) (r : Result (Unit {0}) BookFault) → Fits (length m) a s → s ≤ sendable_at m a → Taken m a s r n → n ≡ after_take m a s
-taken_sure m n a s (Ok u) fits le t = t.2
-taken_sure m n a s (Err f) fits le t = absurd (not_refused fits le t.0)
-
-pub put_sure : (m n : List Figures) (a s : ℕ) (r : Result (Unit {0}) BookFault) → Fits (length m) a s → s ≤ open_at m a → Put m a s r n → n ≡ after_put m a s
-put_sure m n a s (Ok u) fits le t = t.2
-put_sure m n a s (Err f) fits le t = absurd (not_refused fits le t.0)

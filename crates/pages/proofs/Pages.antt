@@ -1,5 +1,6 @@
 -- What the records of a page hold, and what a write to one of them leaves.
 use Rattle.std.specs.Prelude.{◌≡◌, ℕ, zero, suc, ◌+◌, ◌*◌, ◌^◌, ◌<◌, ◌≤◌, List, [], ◌∷◌, ◌++◌, length, take, drop, Some, None, Option, Ok, Err, vec_items, vec_len, Result, slice_index, slice_get, slice_set, refl}
+use borrow.Author.Count.{below_more}
 use Rattle.std.proofs.Common.{get_or, sym, ap, subst, ◌∙◌, append_assoc, ⊎_elim, inl, inr, arith, add_assoc, length-set, length-append, length-drop, length-take, take-append-drop, length-take-le, take-add, take_at, drop_at, drop-drop}
 use Rattle.std.proofs.Math.Seq.{take-append-add, drop-append-add}
 use Rattle.std.specs.Int.Digits.{AllBelowBase}
@@ -145,17 +146,22 @@ bytes_by (suc k) (x ∷ p) h small letters =
     let more = bytes_by k (drop 8 p) (omega (arith, length-drop 8 p)) (λ i. rw get_or-drop (small (suc (8 + i)))) (λ j l. get_or-drop 8 p (9 * j) 0 ∙ ap (λ m. slice_index (x ∷ p) m) (at j) ∙ letters (suc j) (omega arith)) in
     ap (λ m. take m (x ∷ p)) e ∙ take-add 9 (9 * k) (x ∷ p) ∙ (λ i. letters 0 (omega arith) i ∷ (figure i ++ more i))
 
-pub formed_by : (k : ℕ) (p : List ℕ) → k ≤ 16 → 9 * k ≤ length p → ((i : ℕ) → slice_index p i < 256) → ((j : ℕ) → j < k → (letter_at p j ≡ 80) × (figure_at p j ≤ 10 ^ 16)) → Formed k p
+formed_by : (k : ℕ) (p : List ℕ) → k ≤ 16 → 9 * k ≤ length p → ((i : ℕ) → slice_index p i < 256) → ((j : ℕ) → j < k → (letter_at p j ≡ 80) × (figure_at p j ≤ 10 ^ 16)) → Formed k p
 formed_by k p few h small each = (
   few,
   bytes_by k p h small (λ j l. (each j l).0),
   λ a. ⊎_elim (λ (l : a < k). omega (arith, figures_at k a p l, (each a l).1)) (λ (l : k ≤ a). omega (arith, get_or_past (figures_of k p) a 0 (omega (arith, length_figures k p)))) (cases_lt a k),
 )
 
+-- one more record that is well formed
+pub formed_next : (a : ℕ) (p : List ℕ) → Formed a p → a < 16 → 9 * a + 9 ≤ length p → ((i : ℕ) → slice_index p i < 256) → RecordChecked (letter_at p a) (figure_at p a) a (Ok tt) → Formed (a + 1) p
+formed_next a p f few h small good =
+    formed_by (a + 1) p (omega arith) (omega arith) small
+    (below_more (λ j. (letter_at p j ≡ 80) × (figure_at p j ≤ 10 ^ 16)) a (λ j l. (letter_stands a j p f l, omega (arith, figures_at a j p l, f.2 j))) good)
+
 -- the first record that is not well formed refuses the page
-pub refuses_record : (n a : ℕ) (p : List ℕ) (f : PageFault) → Sized n p → a < n → ((i : ℕ) → slice_index p i < 256) → ((j : ℕ) → j < a → (letter_at p j ≡ 80) × (figure_at p j ≤ 10 ^ 16)) → RecordChecked (letter_at p a) (figure_at p a) a (Err f) → PageRefuses p f
-refuses_record n a p f sized here small each bad =
-    let before = formed_by a p (omega arith) (omega arith) small each in
+pub refuses_record : (n a : ℕ) (p : List ℕ) (f : PageFault) → Sized n p → a < n → Formed a p → RecordChecked (letter_at p a) (figure_at p a) a (Err f) → PageRefuses p f
+refuses_record n a p f sized here before bad =
     inr (⊎_elim
     (λ r. inl (n, a, record { number = ap page_number r.0; names = r.0; sized = sized; here = here; before = before; other = r.1 }))
     (λ r. inr (n, a, record { number = ap page_number r.0; names = r.0; sized = sized; here = here; before = before; letter = r.1; large = r.2 })) bad)
