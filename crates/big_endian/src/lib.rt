@@ -22,6 +22,7 @@ pub trait Number<const N: usize>: Sized {
     fn to_bytes(self) -> [u8; N]
         ensures bytes { result ≡ bytes_of N (value self) };
 
+    /// No number has more than eight bytes, so that its bytes fit in memory.
     ghost short: { N ≤ 8 };
 }
 
@@ -81,6 +82,7 @@ impl fmt::Display for NoRoom {
 
 impl Error for NoRoom {}
 
+// Here and below, slice and place are two parameters: `&input[at..]` would ask a caller to show that the place is within it.
 /// The `N` bytes of `input` from `at` on, or `None` where there are fewer.
 pub fn bytes_at<const N: usize>(input: &[u8], at: usize) -> Option<&[u8; N]>
     ensures answer { MatchOption result (length input.now < at + N) (λ part. (at + N ≤ length input.now) × (part.now ≡ take N (drop at input.now))) }

@@ -1,4 +1,4 @@
--- The refusals of a book: their numbers, and what they name.
+-- The refusals of a book: their numbers, what they name, and their words.
 use Rattle.std.specs.Prelude.{◌≡◌, ℕ, List, ◌++◌, codes, decimal}
 use Rattle.book.specs.declared.fault.BookFault.{BookFault}
 use Rattle.book.specs.declared.fault.Reason.{Reason}

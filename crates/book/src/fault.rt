@@ -40,6 +40,7 @@ impl Reason {
 }
 
 impl BookFault {
+    // A table and no discriminants: two refusals may have one number.
     /// The number of the refusal.
     pub fn number(self) -> u8
         ensures value { result ≡ reason_number self.reason }

@@ -12,5 +12,6 @@ mod line;
 #[derive(Drop)]
 pub struct CreditBook<B: Book> {
     below: B,
+    // For every account that a book can have: a layer asks for no memory, and so can always be made.
     lines: [Line; MOST_ACCOUNTS],
 }

@@ -1,4 +1,4 @@
--- The refusals of whole files: their numbers.
+-- The refusals of whole files: their numbers and words.
 use Rattle.std.specs.Prelude.{ℕ, List, Some, None, codes, Option}
 use Rattle.layout.specs.Faults.{read_number, write_number, fault_words, write_words}
 use Rattle.files.specs.declared.fault.FileFault.{FileFault}

@@ -18,6 +18,7 @@ pub enum FileFault {
 }
 
 impl FileFault {
+    // A table and no discriminants: two refusals may have one number.
     /// The number of the refusal, where it is one.
     pub fn number(self) -> Option<u8>
         ensures value { result ≡ file_number self }

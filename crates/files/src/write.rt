@@ -7,7 +7,8 @@ use layout::Record;
 use records::write_record;
 use std::alloc::Global;
 
-// The bytes of the longest kind of record, an opening: the writer fills a space that is lent to it.
+// The bytes of the longest kind of record, an opening. A record is written into a space of its own, since one that is refused
+// must leave the file as it was.
 const LONGEST: usize = 26;
 
 /// Adds a record's bytes to the end of a file.

@@ -1,4 +1,4 @@
--- The refusals of reader and writer: their numbers and what they name.
+-- The refusals of reader and writer: their numbers, what they name, and their words.
 use Rattle.std.specs.Prelude.{ℕ, List, codes}
 use Rattle.layout.specs.declared.fault.ReadFault.{ReadFault}
 use Rattle.layout.specs.declared.fault.ReadFault.TheVariants.{UnknownLetter, CutBody}

@@ -24,6 +24,7 @@ pub enum WriteFault {
 }
 
 impl ReadFault {
+    // A table and no discriminants: two refusals may have one number.
     /// The number of the refusal.
     pub fn number(self) -> u8
         ensures value { result ≡ read_number self }
@@ -59,6 +60,7 @@ impl fmt::Display for ReadFault {
 impl Error for ReadFault {}
 
 impl WriteFault {
+    // A table and no discriminants: two refusals may have one number.
     /// The number of the refusal.
     pub fn number(self) -> u8
         ensures value { result ≡ write_number self }

@@ -26,10 +26,10 @@ pub enum Kind {
 pub struct NoKind(pub u8);
 
 impl fmt::Display for NoKind {
-    ghost output = { λ e. Some (codes "no kind of record has the letter " ++ decimal e.0) };
+    ghost output = { λ e. Some (codes "no kind of record begins with byte " ++ decimal e.0) };
 
     fn fmt<W: fmt::Write>(&self, f: &mut fmt::Formatter<W>) -> fmt::Result {
-        write!(f, "no kind of record has the letter {}", self.0)
+        write!(f, "no kind of record begins with byte {}", self.0)
     }
 }
 

@@ -7,7 +7,8 @@ use crate::line::{Ending, Entry, Refusal, Verdict};
 use layout::Record;
 use std::fmt;
 
-// A record's letter, its kind in words, and its fields by name. Arms that are equal but for the words stay two.
+// A record's letter, its kind in words, and its fields by name, which belong to the listing and not to the record. Arms that
+// are equal but for the words stay two.
 #[derive(Clone, Copy)]
 struct Fields<'a>(Record<'a>);
 

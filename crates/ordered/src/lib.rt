@@ -76,7 +76,7 @@ pub fn send_last<T>(row: &mut [T], place: usize) -> Result<(), NoPlace>
     Ok(())
 }
 
-// No type holds a row in order: an entry whose key stands in the row already has no place, and such a type would have to refuse it.
+// These calls serve any row. Whoever owns one that is in order says so in its own type.
 /// Puts `entry` at its place, in memory that `row` has reserved. A full row is left as it is, and the entry handed back.
 pub fn insert<T: Ranked>(row: &mut Vec<T>, entry: T) -> Result<(), T>
     ensures answer { Inserted T.precedes entry row.old result row.new }

@@ -4,18 +4,13 @@ use ordered::{NoPlace, place_last, place_of, send_last};
 use std::test::Fail;
 
 // A row of four.
-fn four(a: u8, b: u8, c: u8, d: u8) -> [Held; 4] {
-    [
-        Held { receipt: a },
-        Held { receipt: b },
-        Held { receipt: c },
-        Held { receipt: d },
-    ]
+fn four(receipts: [u8; 4]) -> [Held; 4] {
+    receipts.map(|receipt| Held { receipt })
 }
 
 #[test]
 fn an_entry_stands_before_the_first_that_it_precedes(rt: HostRuntime) {
-    let row = four(10, 20, 30, 40);
+    let row = four([10, 20, 30, 40]);
     for (receipt, place) in [(5, 0), (10, 1), (15, 1), (25, 2), (40, 4), (45, 4)] {
         assert_eq!(rt; place_of(&row, &Held { receipt }), place);
     }
@@ -24,9 +19,9 @@ fn an_entry_stands_before_the_first_that_it_precedes(rt: HostRuntime) {
 
 #[test]
 fn the_last_goes_to_its_place_and_the_others_keep_their_order(rt: HostRuntime) {
-    let mut first = four(20, 30, 40, 10);
-    let mut middle = four(40, 10, 30, 20);
-    let mut last = four(10, 20, 30, 40);
+    let mut first = four([20, 30, 40, 10]);
+    let mut middle = four([40, 10, 30, 20]);
+    let mut last = four([10, 20, 30, 40]);
     place_last(&mut first);
     place_last(&mut middle);
     place_last(&mut last);
@@ -44,7 +39,7 @@ fn a_row_of_none_stays_empty(rt: HostRuntime) {
 
 #[test]
 fn an_entry_is_sent_behind_the_others(rt: HostRuntime) {
-    let mut row = four(10, 20, 30, 40);
+    let mut row = four([10, 20, 30, 40]);
     assert_eq!(rt; send_last(&mut row, 0), Ok(()));
     assert!(rt; has(&row, &[20, 30, 40, 10]));
     assert_eq!(rt; send_last(&mut row, 1), Ok(()));

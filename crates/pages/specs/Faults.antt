@@ -1,4 +1,4 @@
--- The refusals of a page: their numbers.
+-- The refusals of a page: their numbers and words.
 use Rattle.std.specs.Prelude.{ℕ, List, ◌++◌, codes, decimal}
 use Rattle.pages.specs.declared.fault.PageFault.{PageFault}
 use Rattle.pages.specs.declared.fault.PageFault.TheVariants.{BadLength, BadLetter, LargeFigure}

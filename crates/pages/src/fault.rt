@@ -17,6 +17,7 @@ pub enum PageFault {
 }
 
 impl PageFault {
+    // A table and no discriminants: two refusals may have one number.
     /// The number of the refusal.
     pub fn number(self) -> u8
         ensures value { result ≡ page_number self }

@@ -73,9 +73,7 @@ pub fn read_record<'a>(input: &'a [u8], at: usize) -> Result<Option<(Record<'a>,
     if at >= input.len() {
         return Ok(None);
     }
-    let Ok(kind) = Kind::try_from(input[at]) else {
-        return Err(ReadFault::UnknownLetter { place: at });
-    };
+    let kind = Kind::try_from(input[at]).map_err(|_| ReadFault::UnknownLetter { place: at })?;
     let rest = &input[at + 1..];
     let size = kind.body_len();
     if rest.len() < size {
@@ -84,6 +82,7 @@ pub fn read_record<'a>(input: &'a [u8], at: usize) -> Result<Option<(Record<'a>,
     Ok(Some((decode(kind, rest), at + 1 + size)))
 }
 
+// A slice and a place in it, since callers are told the place.
 /// Reads a file record by record.
 #[derive(Drop)]
 pub struct Reader<'a> {

@@ -81,6 +81,7 @@ fn fill(what: &Record<'_>, space: &mut [u8])
     }
 }
 
+// The space is lent, and no memory is asked for, so the answer says how much of it is filled.
 /// Puts a record's bytes at the start of a space, leaves the rest, and answers how many they are.
 pub fn write_record(what: &Record<'_>, space: &mut [u8]) -> Result<usize, WriteFault>
     ensures answer { Wrote what.now space.old space.new result }

@@ -47,14 +47,12 @@ fn a_cut_at_each_byte_is_refused(rt: HostRuntime) {
 
 #[test]
 fn every_other_letter_is_refused(rt: HostRuntime) {
-    let mut known = 0usize;
     for letter in 0..=255u8 {
         let file = [b'R', letter, 0];
         match Kind::try_from(letter) {
             Ok(kind) => {
                 assert!(rt; b"OFDSAWLRBC".contains(&letter));
                 assert_eq!(rt; kind.letter(), letter);
-                known = known.saturating_add(1);
             }
             Err(NoKind(other)) => {
                 assert_eq!(rt; other, letter);
@@ -65,7 +63,8 @@ fn every_other_letter_is_refused(rt: HostRuntime) {
             }
         }
     }
-    assert_eq!(rt; known, 10);
+    let known = (0..=255u8).filter(|letter| Kind::try_from(*letter).is_ok());
+    assert_eq!(rt; known.count(), 10);
     assert_eq!(rt; ReadFault::UnknownLetter { place: 7 }.number(), 15);
     assert_eq!(rt; ReadFault::UnknownLetter { place: 7 }.place(), 7);
 }

@@ -23,6 +23,7 @@ impl<B: Book> RoomBook<B> {
         }
     }
 
+    // A credit book lends its book below by the same line: a trait for it would be longer than both.
     /// The book below.
     pub fn below(&self) -> &B
         ensures value { result.now ≡ self.now.below }

@@ -12,6 +12,7 @@ mod calls;
 #[derive(Drop)]
 pub struct RoomBook<B: Book> {
     below: B,
+    // For every account that a book can have: a layer asks for no memory, and so can always be made.
     rooms: [u64; MOST_ACCOUNTS],
     ghost low: { RoomRule rooms },
 }

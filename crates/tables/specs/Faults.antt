@@ -1,4 +1,4 @@
--- The refusals of a row: their numbers.
+-- The refusals of a row: their numbers and words.
 use Rattle.std.specs.Prelude.{ℕ, List, ◌++◌, codes, decimal}
 use Rattle.tables.specs.declared.fault.RowFault.{RowFault}
 use Rattle.tables.specs.declared.fault.RowFault.TheVariants.{BadLength, LargeFigure}

@@ -15,6 +15,7 @@ pub enum RowFault {
 }
 
 impl RowFault {
+    // A table and no discriminants: two refusals may have one number.
     /// The number of the refusal.
     pub fn number(self) -> u8
         ensures value { result ≡ row_number self }

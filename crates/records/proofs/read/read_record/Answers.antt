@@ -17,12 +17,12 @@ pub returns : goal.returns
 returns c =
     let s = c.args.input.now in
     let at = c.args.at in
-    let k = c.in-Ok.kind in
+    let k = c.in_ok-kind.kind in
     let rest = take_rest s (at + 1) in
     let bytes = All-from_get_or (λ d. d < 256) s 0 (λ i h. omega (arith, c.type_inv.input i)) in
     let size = c.body_len-size.ensures.value in
     let told = c.decode.ensures in
-    let here = stands s at k bytes c.if-at-input.false c.in-Ok.ensures (told.says ∙ ap (parsed k) rest) (ap (λ n. at + 1 + n) size) (omega (arith, c.if-rest-size.false, ap length rest, length-drop (at + 1) s)) in
+    let here = stands s at k bytes c.if-at-input.false (search rules) (told.says ∙ ap (parsed k) rest) (ap (λ n. at + 1 + n) size) (omega (arith, c.if-rest-size.false, ap length rest, length-drop (at + 1) s)) in
     record {
       answer = (here, lent_rest c.args.input (at + 1) 12 _ c.decode.result (omega arith) rest told.lent);
       alone = λ p n h. one_stands s at p _ n _ h here;
