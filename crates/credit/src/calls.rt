@@ -21,11 +21,7 @@ impl<B: Book> CreditBook<B> {
     {
         CreditBook {
             below,
-            lines: capped(limits).map(
-                |limit| -> Line
-                    requires { limit ≤ 10 ^ 15 }
-                { Line { limit, loan: 0 } },
-            ),
+            lines: capped(limits).map(Line::new),
         }
     }
 

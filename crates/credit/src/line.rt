@@ -11,6 +11,15 @@ pub(crate) struct Line {
 }
 
 impl Line {
+    // A line of which nothing is lent.
+    pub(crate) fn new(limit: u64) -> Line
+        requires { limit ≤ 10 ^ 15 }
+        ensures limit { result.limit ≡ limit }
+        ensures loan { result.loan ≡ 0 }
+    {
+        Line { limit, loan: 0 }
+    }
+
     // What is left of the limit.
     pub(crate) fn left(self) -> u64
         ensures value { result ≡ self.limit - self.loan }

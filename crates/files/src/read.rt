@@ -13,24 +13,15 @@ pub fn read_front<'a>(heap: Global, input: &'a [u8]) -> Result<Front<'a>, AllocE
 {
     let mut records = Vec::new(heap);
     let mut reader = Reader::new(input);
-    loop {
+    let stop = loop {
         let place = reader.place();
         match reader.next_record() {
             Ok(Some(record)) => records.push(Placed { place, record })?,
-            Ok(None) => {
-                return Ok(Front {
-                    records,
-                    stop: None,
-                });
-            }
-            Err(fault) => {
-                return Ok(Front {
-                    records,
-                    stop: Some(fault),
-                });
-            }
+            Ok(None) => break None,
+            Err(fault) => break Some(fault),
         }
-    }
+    };
+    Ok(Front { records, stop })
 }
 
 /// All the records of a file, or the refusal that stopped the reader.

@@ -69,17 +69,15 @@ fn compare(file: &[u8], copy: &[u8], is_cut: bool) -> Verdict
     }
 }
 
-// The bytes of records that were read from a file, written out again. Under `map_err` a closure would have to require that
-// the fault is want of memory, so the cases are written out.
+// The bytes of records that were read from a file, written out again, so that only memory can be wanting.
 fn written_back(heap: Global, records: &[Placed<'_>]) -> Result<Vec<u8>, AllocError>
     requires { AllByRecursion (λ w. Sized w.«record») records.now }
     ensures copy { IfOk result (λ v. v.items ≡ flat_map encode (said records.now)) }
 {
-    match write_file(heap, records) {
-        Ok(copy) => Ok(copy),
-        Err(FileFault::Memory) => Err(AllocError),
-        Err(_) => unreachable(),
-    }
+    write_file(heap, records).map_err(|fault| match fault {
+        FileFault::Memory => AllocError,
+        FileFault::Read(_) | FileFault::Write(_) => unreachable(),
+    })
 }
 
 /// Lists a file, writes what was read out again, and says whether that is the file; `is_cut` says that the file has more

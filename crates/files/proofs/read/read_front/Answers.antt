@@ -1,6 +1,7 @@
 use Rattle.std.proofs.Common.{vec_items, ◌∙◌}
 use Rattle.files.proofs.Files.{follow_next, whole_at, stopped_at}
 use Rattle.files.proofs.read.read_front.Goals as goal
+use Rattle.files.proofs.read.read_front.Goals.{in-Ok-None, in-Err}
 
 pub loop-record-preserved : goal.loop-record-preserved
 loop-record-preserved c =
@@ -10,12 +11,13 @@ loop-record-preserved c =
       told.same ∙ before.invariant.1,
     )
 
-pub returns-in-Ok-None : goal.returns-in-Ok-None
-returns-in-Ok-None c =
+pub returns : goal.returns
+returns c =
     let before = c.loop-record in
-    record { answer = whole_at before.reader.input _ _ before.reader.at _ _ before.invariant.0 (before.invariant.1 ∙ c.new-reader.ensures.input) c.in-Ok-None.field-0-is c.in-Ok-None.ensures.answer }
-
-pub returns-in-Err : goal.returns-in-Err
-returns-in-Err c =
-    let before = c.loop-record in
-    record { answer = stopped_at before.reader.input _ _ before.reader.at c.in-Err.fault before.invariant.0 (before.invariant.1 ∙ c.new-reader.ensures.input) c.in-Err.ensures.answer.0 }
+    let file = before.invariant.1 ∙ c.new-reader.ensures.input in
+    record {
+      answer = elim c.match-next_record.branch [
+        | in-Ok-None w ↦ rw w.stop-is (whole_at before.reader.input _ _ before.reader.at _ _ before.invariant.0 file w.in-Ok-None.field-0-is w.in-Ok-None.ensures.answer)
+        | in-Err w ↦ rw w.stop-is (stopped_at before.reader.input _ _ before.reader.at w.in-Err.fault before.invariant.0 file w.in-Err.ensures.answer.0)
+      ];
+    }
