@@ -1,11 +1,9 @@
 -- The lines of a listing, one after another, and what is said at its end.
-use Rattle.std.proofs.Common.{◌≡◌, ℕ, ◌+◌, ◌<◌, Bool, false, List, [], ◌∷◌, ◌++◌, length, get_or, take, sym, ap, ◌∙◌, subst, append_assoc, append-nil, arith}
+use Rattle.std.proofs.Common.{◌≡◌, ℕ, ◌+◌, ◌<◌, List, [], ◌∷◌, ◌++◌, length, get_or, take, sym, ap, ◌∙◌, append_assoc, append-nil, arith}
 use Rattle.std.proofs.lemmas.List.{take_more, length-take-le}
 use Rattle.files.specs.declared.placed.Placed.{Placed}
-use Rattle.lines.specs.declared.line.Verdict.{Verdict}
-use Rattle.lines.specs.declared.line.Verdict.TheVariants.{Same, Front}
 use Rattle.lines.specs.Lines.{entry_text}
-use Rattle.listing.specs.Listing.{entries_text, Judged}
+use Rattle.listing.specs.Listing.{entries_text}
 
 -- the line of one record
 abbrev line : ℕ → Placed → List ℕ
