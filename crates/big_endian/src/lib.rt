@@ -72,6 +72,7 @@ impl Number<1> for u8 {
 #[derive(Clone, Copy, Debug, PartialEq, Eq)]
 pub struct NoRoom;
 
+// The words are written out, since a derived text has no contract.
 impl fmt::Display for NoRoom {
     ghost output = { λ _. Some (codes "there is no room for these bytes") };
 

@@ -14,6 +14,7 @@ pub fn check_account(accounts: usize, account: usize) -> Result<(), BookFault>
     Ok(())
 }
 
+// Account and sum stay two parameters, here and in every book: each caller has them apart.
 /// Whether a book of so many accounts may move `sum` at `account` at all. It refuses 1 for an account that is not in the
 /// book, then 2 for a sum of 0 or above 10^16.
 pub fn check_move(accounts: usize, account: usize, sum: u64) -> Result<(), BookFault>

@@ -40,7 +40,7 @@ impl Reason {
 }
 
 impl BookFault {
-    // A table and no discriminants: two refusals may have one number.
+    // A table, as every fault has: most have fields, and so no discriminant to read.
     /// The number of the refusal.
     pub fn number(self) -> u8
         ensures value { result ≡ reason_number self.reason }
@@ -54,6 +54,7 @@ impl BookFault {
     }
 }
 
+// The words are written out, since a derived text has no contract.
 impl fmt::Display for Reason {
     ghost output = { λ r. Some (reason_words r) };
 
@@ -67,6 +68,7 @@ impl fmt::Display for Reason {
     }
 }
 
+// The words are written out, since a derived text has no contract.
 impl fmt::Display for BookFault {
     ghost output = { λ e. Some (book_words e) };
 

@@ -18,7 +18,7 @@ pub enum FileFault {
 }
 
 impl FileFault {
-    // A table and no discriminants: two refusals may have one number.
+    // A table, as every fault has: most have fields, and so no discriminant to read.
     /// The number of the refusal, where it is one.
     pub fn number(self) -> Option<u8>
         ensures value { result ≡ file_number self }
@@ -31,6 +31,7 @@ impl FileFault {
     }
 }
 
+// The words are written out, since a derived text has no contract.
 impl fmt::Display for FileFault {
     ghost output = { λ f. Some (file_words f) };
 
@@ -45,7 +46,7 @@ impl fmt::Display for FileFault {
 
 impl Error for FileFault {}
 
-// Both conversions are written out, so that a clause knows which fault a `?` makes.
+// Both conversions are written out: a derived one has no contract, and a clause says which fault a `?` makes.
 impl From<WriteFault> for FileFault {
     ghost from_gives = { λ fault r. r ≡ Write fault };
 

@@ -24,7 +24,7 @@ pub enum WriteFault {
 }
 
 impl ReadFault {
-    // A table and no discriminants: two refusals may have one number.
+    // A table, as every fault has: most have fields, and so no discriminant to read.
     /// The number of the refusal.
     pub fn number(self) -> u8
         ensures value { result ≡ read_number self }
@@ -45,7 +45,7 @@ impl ReadFault {
     }
 }
 
-/// The refusal in words.
+// The words are written out, since a derived text has no contract.
 impl fmt::Display for ReadFault {
     ghost output = { λ f. Some (fault_words f) };
 
@@ -60,7 +60,7 @@ impl fmt::Display for ReadFault {
 impl Error for ReadFault {}
 
 impl WriteFault {
-    // A table and no discriminants: two refusals may have one number.
+    // A table, as every fault has: most have fields, and so no discriminant to read.
     /// The number of the refusal.
     pub fn number(self) -> u8
         ensures value { result ≡ write_number self }
@@ -72,6 +72,7 @@ impl WriteFault {
     }
 }
 
+// The words are written out, since a derived text has no contract.
 impl fmt::Display for WriteFault {
     ghost output = { λ f. Some (write_words f) };
 

@@ -25,6 +25,7 @@ pub enum Kind {
 #[derive(Clone, Copy, Debug, PartialEq, Eq)]
 pub struct NoKind(pub u8);
 
+// The words are written out, since a derived text has no contract.
 impl fmt::Display for NoKind {
     ghost output = { λ e. Some (codes "no kind of record begins with byte " ++ decimal e.0) };
 
@@ -59,7 +60,7 @@ impl TryFrom<u8> for Kind {
 }
 
 impl Kind {
-    // No `From<Kind> for u8`: that would not say that the number is a letter.
+    // A table, as `body_len` is: neither a conversion nor a discriminant would say that the number is a letter.
     /// The letter that a record of this kind begins with.
     pub fn letter(self) -> u8
         ensures value { result ≡ letter_of self }

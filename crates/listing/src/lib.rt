@@ -55,8 +55,8 @@ fn add_stop(text: &mut String, number: usize, stop: Option<ReadFault>) -> Result
     }
 }
 
-// How a copy compares with the file that it was made from, of which there may be more than was read. The two come as
-// they are, since a type that owns the bytes would have a caller with a slice copy them.
+// How a copy compares with the file that it was made from, of which there may be more than was read. File and word
+// go together here and in `list` alone: a struct for them would be made only to be taken apart.
 fn compare(file: &[u8], copy: &[u8], is_cut: bool) -> Verdict
     ensures answer { Judged file.now copy.now is_cut result }
 {

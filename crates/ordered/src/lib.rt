@@ -8,6 +8,7 @@ ghost use Rattle.ordered.specs.Rows.{Sent, Inserted, Removed};
 use std::error::Error;
 use std::fmt;
 
+// Not `Ord`: an entry is ordered by a part of it, and `Ord` would have `==` read that part alone.
 /// An entry with a place among others of its kind: of two with different keys, just one precedes the other.
 pub trait Ranked {
     /// What the order looks at.
@@ -55,6 +56,7 @@ pub struct NoPlace {
     pub place: usize,
 }
 
+// The words are written out, since a derived text has no contract.
 impl fmt::Display for NoPlace {
     ghost output = { λ e. Some (codes "there is no place " ++ decimal e.place) };
 
@@ -76,7 +78,7 @@ pub fn send_last<T>(row: &mut [T], place: usize) -> Result<(), NoPlace>
     Ok(())
 }
 
-// These calls serve any row. Whoever owns one that is in order says so in its own type.
+// That a row is in order is a premise here and in the other calls, and no type: they serve any row.
 /// Puts `entry` at its place, in memory that `row` has reserved. A full row is left as it is, and the entry handed back.
 pub fn insert<T: Ranked>(row: &mut Vec<T>, entry: T) -> Result<(), T>
     ensures answer { Inserted T.precedes entry row.old result row.new }

@@ -17,7 +17,7 @@ pub enum PageFault {
 }
 
 impl PageFault {
-    // A table and no discriminants: two refusals may have one number.
+    // A table, as every fault has: most have fields, and so no discriminant to read.
     /// The number of the refusal.
     pub fn number(self) -> u8
         ensures value { result ≡ page_number self }
@@ -30,6 +30,7 @@ impl PageFault {
     }
 }
 
+// The words are written out, since a derived text has no contract.
 impl fmt::Display for PageFault {
     ghost output = { λ f. Some (page_words f) };
 

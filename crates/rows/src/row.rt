@@ -9,6 +9,7 @@ use std::fmt;
 #[derive(Clone, Copy, Debug, PartialEq, Eq)]
 pub struct NotWritten;
 
+// The words are written out, since a derived text has no contract.
 impl fmt::Display for NotWritten {
     ghost output = { λ _. Some (codes "the row has no such place, or the figure is above 10^16") };
 

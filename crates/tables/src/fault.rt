@@ -15,7 +15,7 @@ pub enum RowFault {
 }
 
 impl RowFault {
-    // A table and no discriminants: two refusals may have one number.
+    // A table, as every fault has: most have fields, and so no discriminant to read.
     /// The number of the refusal.
     pub fn number(self) -> u8
         ensures value { result ≡ row_number self }
@@ -27,6 +27,7 @@ impl RowFault {
     }
 }
 
+// The words are written out, since a derived text has no contract.
 impl fmt::Display for RowFault {
     ghost output = { λ f. Some (row_words f) };
 
