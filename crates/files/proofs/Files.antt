@@ -1,8 +1,7 @@
 -- The records of a file, one after another.
-use Rattle.std.proofs.Common.{◌≡◌, ℕ, ◌+◌, ◌-◌, ◌<◌, ◌≤◌, List, [], ◌∷◌, ◌++◌, length, get_or, take, drop, Some, None, Ok, Err, Option, sym, refl, ap, ◌∙◌, subst, append_assoc, append-nil, arith, length-append, length-drop, Bor}
+use Rattle.std.proofs.Common.{◌≡◌, ℕ, ◌+◌, ◌-◌, ◌≤◌, List, [], ◌∷◌, ◌++◌, length, take, drop, Some, None, Ok, Option, sym, refl, ap, ◌∙◌, subst, append_assoc, append-nil, arith, length-append, length-drop, Bor}
 use Rattle.std.specs.List.{flat_map, AllByRecursion}
-use Rattle.std.proofs.ByRecursion.{All-get_or}
-use Rattle.std.proofs.lemmas.List.{drop_all, take_at, flat_map_more, map_more}
+use Rattle.std.proofs.lemmas.List.{drop_all, take_at}
 use Rattle.layout.specs.declared.fault.ReadFault.{ReadFault}
 use Rattle.layout.specs.declared.record.Record.{Record}
 use Rattle.layout.specs.Records.{plain, Sized, Sound, encode}
@@ -10,10 +9,8 @@ use Rattle.layout.specs.Faults.{place_of}
 use Rattle.records.specs.Reading.{Stands, Lent, Refuses, Nexts}
 use Rattle.records.proofs.Splitting.{none_stands}
 use Rattle.records.proofs.WritingBack.{lent_sized}
-use Rattle.files.specs.declared.fault.FileFault.{FileFault}
-use Rattle.files.specs.declared.fault.FileFault.TheVariants.{Read, Write, Memory}
 use Rattle.files.specs.declared.placed.Placed.{Placed}
-use Rattle.files.specs.Files.{said, Follow, MakesUp, Whole, Stopped, Appended, Joined}
+use Rattle.files.specs.Files.{said, Follow, MakesUp, Whole, Stopped}
 use Rattle.files.proofs.Splitting.{splits_one_way, none_make_up}
 
 module _ (file : Bor (List ℕ)) where
@@ -87,14 +84,3 @@ cut_space n bytes space old e same room =
     let long : length bytes ≡ n = omega (arith, simp (length-append, length-drop) at (ap length e)) in
     let whole-cut : n - 0 ≡ n = omega arith in
     ap (λ k. take k space) whole-cut ∙ ap (take n) e ∙ take_at bytes (drop n old) n long
-
--- a turn that wrote one record more
-pub joined_record : (ws : List Placed) (i : ℕ) (d : Placed) {bytes : List ℕ} → bytes ≡ flat_map encode (said (take i ws)) → i < length ws → bytes ++ encode (plain (get_or ws i d).«record») ≡ flat_map encode (said (take (i + 1) ws))
-joined_record ws i d e h =
-    ap (λ l. l ++ encode (plain (get_or ws i d).«record»)) e ∙ flat_map_more encode [] (said (take i ws)) (plain (get_or ws i d).«record») ∙ ap (flat_map encode) (sym (map_more (λ w. plain w.«record») ws i d h))
-
--- a record that is not written leaves the list unwritten
-pub unjoined : (ws : List Placed) (i : ℕ) (d : Placed) (old new : List ℕ) (e : FileFault) → i < length ws → Appended (get_or ws i d).«record» old new (Err e) → Joined ws (Err e)
-unjoined ws i d old new (Read f) lt h = absurd h
-unjoined ws i d old new (Write f) lt h = (h.0, λ sized. h.1 (All-get_or (λ w. Sized w.«record») ws i d lt sized))
-unjoined ws i d old new Memory lt h = tt

@@ -1,3 +1,0 @@
-pub mod Sures
-pub mod Credits
-pub mod Rooms
