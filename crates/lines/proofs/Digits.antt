@@ -1,13 +1,15 @@
 -- Bytes and their hexadecimal digits.
-use Rattle.std.proofs.Common.{◌≡◌, ℕ, ◌+◌, ◌-◌, ◌^◌, ◌/◌, ◌%◌, ◌<◌, false, List, [], ◌∷◌, ◌++◌, length, get_or, take, Some, option_map, refl, ap, ◌∙◌}
-use Rattle.std.specs.Fmt.{digit_glyph, digits, digits_output, format_spec, padded_integral, radix_prefix, shown_prefix, styled_digits_output}
-use Rattle.std.proofs.lemmas.Fmt.{hex_byte}
+use Rattle.std.proofs.Common.{◌≡◌, ℕ, ◌+◌, ◌/◌, ◌%◌, ◌<◌, false, List, [], ◌∷◌, ◌++◌, length, get_or, take, refl, ap, ◌∙◌, sym, arith}
+use lib.Utf8.{encode}
+use Rattle.std.specs.Fmt.{digit_glyph}
+use Rattle.std.proofs.lemmas.Str.Ascii.{encode_ascii}
 use Rattle.std.proofs.lemmas.List.{take_more}
+use Rattle.std.proofs.lemmas.Bool.Decides.{nat_tests}
 use Rattle.lines.specs.Hex.{hex_of}
 
--- what `{:02x}` writes of a byte
-pub two_digits : (d : _) (s : _) (b : ℕ) → b < 256 → digits_output d ≡ Some (digits 16 false b) → s ≡ format_spec 32 0 4 2 (2 ^ 64 - 1) → styled_digits_output d s ≡ Some (hex_of (b ∷ []))
-two_digits d s b small e laid = (λ i. option_map (padded_integral (laid i) false (shown_prefix (laid i) (radix_prefix d.base))) (e i)) ∙ ap Some (hex_byte false b small)
+-- a digit is one byte
+pub encode-digit : (n c : ℕ) → n < 16 → c ≡ digit_glyph false n → encode c ≡ digit_glyph false n ∷ []
+encode-digit n c small e = ap encode e ∙ encode_ascii (digit_glyph false n) (grind (arith, nat_tests))
 
 hex_of-append : (xs ys : List ℕ) → hex_of (xs ++ ys) ≡ hex_of xs ++ hex_of ys
 hex_of-append [] ys = refl
@@ -15,3 +17,9 @@ hex_of-append (x ∷ xs) ys = ap (λ l. digit_glyph false (x / 16) ∷ digit_gly
 
 pub hex_of_more : (s : List ℕ) (i : ℕ) → i < length s → hex_of (take (i + 1) s) ≡ hex_of (take i s) ++ hex_of (get_or s i 0 ∷ [])
 hex_of_more s i h = ap hex_of (take_more s i 0 h) ∙ hex_of-append (take i s) (get_or s i 0 ∷ [])
+
+-- the two digits of byte i, behind those of the bytes before it
+pub byte_digits : (s : List ℕ) (i high low : ℕ) → i < length s → get_or s i 0 < 256 → high ≡ digit_glyph false (get_or s i 0 / 16) → low ≡ digit_glyph false (get_or s i 0 % 16) → hex_of (take i s) ++ (encode high ++ encode low) ≡ hex_of (take (i + 1) s)
+byte_digits s i high low within small h l =
+    (λ k. hex_of (take i s) ++ (encode-digit (get_or s i 0 / 16) high (omega arith) h k ++ encode-digit (get_or s i 0 % 16) low (omega arith) l k))
+    ∙ sym (hex_of_more s i within)

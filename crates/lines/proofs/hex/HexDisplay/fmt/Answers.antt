@@ -1,11 +1,16 @@
-use Rattle.std.proofs.Common.{get_or, sym, refl, arith}
+use Rattle.std.proofs.Common.{◌≡◌, ◌/◌, ◌%◌, get_or, refl, arith, rules}
 use Rattle.std.proofs.Output.{has_written_of_eq, has_written_append}
-use Rattle.lines.proofs.Digits.{hex_of_more, two_digits}
+use Rattle.std.specs.Fmt.{digit_glyph}
+use Rattle.std.specs.Prelude.{true, false}
+use Rattle.lines.proofs.Digits.{byte_digits}
 use Rattle.lines.proofs.hex.HexDisplay.fmt.Goals as goal
 
 pub loop-byte-preserved : goal.loop-byte-preserved
 loop-byte-preserved g c plain =
     let s = c.args.self.now.0.now in
-    let text = two_digits c.in_radix.result c.laid_out.result (get_or s c.loop-byte.byte-index 0) (omega arith) c.in_radix.ensures c.laid_out.ensures in
+    let i = c.loop-byte.byte-index in
+    let b = get_or s i 0 in
+    let high : c.unwrap-high.result ≡ digit_glyph false (b / 16) = search rules in
+    let low : c.unwrap-low.result ≡ digit_glyph false (b % 16) = search rules in
     let before = c.loop-byte.invariant plain in
-    has_written_of_eq _ _ _ _ _ (sym (hex_of_more s c.loop-byte.byte-index c.loop-byte-test.true)) (has_written_append _ _ _ _ _ _ before (rw text at c.in_ok-write.ensures.writes before.plain refl))
+    has_written_of_eq _ _ _ _ _ (byte_digits s i _ _ c.loop-byte-test.true (omega arith) high low) (has_written_append _ _ _ _ _ _ before (c.in_ok-write.ensures.writes before.plain (refl {a = true})))
