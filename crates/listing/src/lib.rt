@@ -55,8 +55,8 @@ fn add_stop(text: &mut String, number: usize, stop: Option<ReadFault>) -> Result
     }
 }
 
-// How a copy compares with the file that it was made from, of which there may be more than was read. File and word
-// go together here and in `list` alone: a struct for them would be made only to be taken apart.
+// How a copy compares with the file that it was made from, of which there may be more than was read. File and word are two
+// parameters, here and in `list`: an `Input` owns its bytes, and a caller may have lent ones.
 fn compare(file: &[u8], copy: &[u8], is_cut: bool) -> Verdict
     ensures answer { Judged file.now copy.now is_cut result }
 {
